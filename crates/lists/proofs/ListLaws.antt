@@ -1,0 +1,97 @@
+-- Laws of lists that code holds as an array with a count.
+-- Assumes nothing.
+use Prim.Native.Nat.{ℕ, zero, suc, _+_, _-_, _≤_, _<_}
+use mathlib.Core.Path.{_≡_, refl, sym, ap, _∙_}
+use mathlib.Core.List.{List, [], _∷_, _++_, append-assoc}
+use mathlib.Core.Bool.{Bool, true, false, cond, _&&_}
+use native.Mathlib.Omega.{arith}
+use native.Mathlib.Numerals.{add-one}
+use lib.ListN.{length, take, drop, getD, set, replicate, length-append, length-take, length-replicate, drop-of-length-le}
+use lib.Seq.{drop-cons, getD-take, set-at, take-at, length-take-le}
+use Rattle.lists.specs.Lists.{padded, eqList}
+
+-- which of two a test picks, where the test is a field or an element and not to be rewritten elsewhere
+module _ {A : Type 0} {b : Bool} (x y : A) where
+  pub cond-yes : b ≡ true → cond b x y ≡ x
+  cond-yes e = rw e
+
+  pub cond-no : b ≡ false → cond b x y ≡ y
+  cond-no e = rw e
+
+module _ {A : Type 0} where
+  -- the places from i on of the first n: one, and those from i + 1 on
+  pub rest-more : (xs : List A) (n i : ℕ) (z : A) → i < n → n ≤ length xs
+      → drop i (take n xs) ≡ getD xs i z ∷ drop (i + 1) (take n xs)
+  rest-more xs n i z h k =
+      let l : i < length (take n xs) = simp length-take (omega arith) in
+      rw (add-one, drop-cons (take n xs) i z l, getD-take n xs i z h)
+
+  -- no place is left
+  pub rest-none : (xs : List A) (n i : ℕ) → n ≤ i → drop i (take n xs) ≡ []
+  rest-none xs n i h = drop-of-length-le (take n xs) (let l : length (take n xs) ≤ i = simp length-take (omega arith) in l)
+
+  -- a count past the array counts as the array's length
+  pub length-live : (xs : List A) (n limit : ℕ) → length xs ≡ limit → (n ≤ limit → length (take n xs) ≡ n) × (limit ≤ n → length (take n xs) ≡ limit)
+  length-live xs n limit e = (λ h. simp length-take (omega arith), λ h. simp length-take (omega arith))
+
+  -- a list held in an array of n places
+  module _ (n : ℕ) (none : A) where
+    pub length-padded : (xs : List A) → length xs ≤ n → length (padded n none xs) ≡ n
+    unfolding padded
+    length-padded xs h = simp (length-append, length-replicate) (omega arith)
+
+    pub take-padded : (xs : List A) → take (length xs) (padded n none xs) ≡ xs
+    unfolding padded
+    take-padded xs = take-at xs (replicate (n - length xs) none) (length xs) refl
+
+    -- one element more, stored at the next place
+    pub padded-set : (xs : List A) (i : ℕ) (x : A) → i ≡ length xs → i < n → set (padded n none xs) i x ≡ padded n none (xs ++ (x ∷ []))
+    unfolding padded
+    padded-set xs i x e h =
+        let l : length (xs ++ (x ∷ [])) ≡ length xs + 1 = length-append xs (x ∷ []) in
+        let f : n - length xs ≡ suc (n - length (xs ++ (x ∷ []))) = omega arith in
+        rw (f, set-at xs none (replicate (n - length (xs ++ (x ∷ []))) none) x i (sym e), append-assoc)
+
+  -- equality of lists says what its name says, where equality of elements does
+  module _ (eq : A → A → Bool) where
+    pub eq-lengths : (xs ys : List A) → (length xs ≡ length ys → ⊥) → eqList eq xs ys ≡ false
+    unfolding eqList
+    eq-lengths [] [] h = absurd (h refl)
+    eq-lengths [] (y ∷ ys) h = refl
+    eq-lengths (x ∷ xs) [] h = refl
+    eq-lengths (x ∷ xs) (y ∷ ys) h = rw (eq-lengths xs ys (λ e. h (ap suc e))) (go (eq x y))
+      where
+        go : (b : Bool) → (b && false) ≡ false
+        go true = refl
+        go false = refl
+
+    pub eqList-true : ((x y : A) → eq x y ≡ true → x ≡ y) → (xs ys : List A) → eqList eq xs ys ≡ true → xs ≡ ys
+    unfolding eqList
+    eqList-true one [] [] e = refl
+    eqList-true one [] (y ∷ ys) e = let z : _≡_ {A = ℕ} 0 1 = ap (λ (b : Bool). cond b 1 0) e in absurd (let y : ⊥ = omega arith in y)
+    eqList-true one (x ∷ xs) [] e = let z : _≡_ {A = ℕ} 0 1 = ap (λ (b : Bool). cond b 1 0) e in absurd (let y : ⊥ = omega arith in y)
+    eqList-true one (x ∷ xs) (y ∷ ys) e = go (eq x y) refl e (eqList-true one xs ys)
+      where
+        go : (b : Bool) → eq x y ≡ b → (b && eqList eq xs ys) ≡ true → (eqList eq xs ys ≡ true → xs ≡ ys) → x ∷ xs ≡ y ∷ ys
+        go true e f ih = rw (one x y e, ih f)
+        go false e f ih = let z : _≡_ {A = ℕ} 0 1 = ap (λ (b : Bool). cond b 1 0) f in absurd (let y : ⊥ = omega arith in y)
+
+    pub eqList-refl : ((x : A) → eq x x ≡ true) → (xs : List A) → eqList eq xs xs ≡ true
+    unfolding eqList
+    eqList-refl one [] = refl
+    eqList-refl one (x ∷ xs) = rw (one x) (eqList-refl one xs)
+
+    -- turns of a loop that compares place by place
+    module _ (xs ys : List A) (n i : ℕ) (z : A) (hx : n ≤ length xs) (hy : n ≤ length ys) where
+      pub eq-turn : i < n → eq (getD xs i z) (getD ys i z) ≡ true
+          → eqList eq (drop i (take n xs)) (drop i (take n ys)) ≡ eqList eq (drop (i + 1) (take n xs)) (drop (i + 1) (take n ys))
+      unfolding eqList
+      eq-turn h e = rw (rest-more xs n i z h hx, rest-more ys n i z h hy, e)
+
+      pub eq-stop : i < n → eq (getD xs i z) (getD ys i z) ≡ false → eqList eq (drop i (take n xs)) (drop i (take n ys)) ≡ false
+      unfolding eqList
+      eq-stop h e = rw (rest-more xs n i z h hx, rest-more ys n i z h hy, e)
+
+      pub eq-end : n ≤ i → eqList eq (drop i (take n xs)) (drop i (take n ys)) ≡ true
+      unfolding eqList
+      eq-end h = rw (rest-none xs n i h, rest-none ys n i h)

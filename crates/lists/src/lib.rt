@@ -1,0 +1,1 @@
+// No code: definitions and laws of lists that every layer above shares.
