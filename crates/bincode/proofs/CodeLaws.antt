@@ -1,7 +1,7 @@
 -- Reading and writing are inverse, for a number of any width, for fields one after the other, for a choice by tag, and for a run
 -- of items of any kind. Each law of an encoded value above is put together from these.
 -- Assumes nothing.
-use Prim.Native.Nat.{ℕ, zero, suc, _+_, _-_, _^_, _≤_, _<_}
+use Prim.Native.Nat.{ℕ, zero, suc, _+_, _^_, _≤_, _<_}
 use mathlib.Core.Path.{_≡_, refl, sym, ap, _∙_, subst}
 use mathlib.Core.List.{List, [], _∷_, _++_}
 use mathlib.Core.Bool.{Bool, true, false, cond}
@@ -14,13 +14,13 @@ use lib.Seq.{length-take-le}
 use borrow.Author.Tests.{eqb-true, eqb-false, ltb-false, le-ltb}
 use Rattle.bincode.specs.Read.{Read, value, refuse, bind, whole}
 use Rattle.bincode.specs.Numbers.{le, bytesOf, readNum, Edition, fixed}
-use Rattle.bincode.specs.Items.{after, items, counted, plain, stay, many}
+use Rattle.bincode.specs.Items.{after, items, counted, plain, many}
 use Rattle.bincode.specs.Stands.{Bytes, Stands, concatMap, Each}
 use Rattle.bincode.specs.Codes.{Codes, NumberCodes}
 use Rattle.bincode.proofs.NumberLaws.{length-bytesOf, le-bytesOf, bytesOf-le, bytes-bytesOf, bytes-part, part-below, read-whole, read-value}
 use Rattle.bincode.proofs.ReadLaws.{clash, bind-value, cond-value}
 use Rattle.bincode.proofs.ItemLaws.{uncons}
-use Rattle.bincode.proofs.StandLaws.{stands-left, stands-right, stands-both, stands-put, stands-self, stands-all, bytes-append}
+use Rattle.bincode.proofs.StandLaws.{stands-left, stands-right, stands-both, stands-self, stands-all, bytes-append}
 
 -- a number of the fixed widths
 pub fixed-codes : (s : List ℕ) → NumberCodes fixed s

@@ -1,13 +1,13 @@
 -- Laws of a run of items, for every kind of item. A loop keeps `items n st at ≡ after done (items (n - i) st′ at′)`.
 -- Assumes nothing.
-use Prim.Native.Nat.{ℕ, zero, suc, _+_, _-_, _≤_, _<_}
+use Prim.Native.Nat.{ℕ, suc, _+_, _-_, _≤_, _<_}
 use mathlib.Core.Path.{_≡_, refl, sym, ap, _∙_}
 use mathlib.Core.List.{List, [], _∷_, _++_, append-assoc, append-nil}
 use native.Mathlib.Omega.{arith}
 use native.Mathlib.Nat.{sub-zero}
 use borrow.Author.Tests.{lt-ltb, le-ltb}
 use Rattle.bincode.specs.Read.{Read, value, refuse, bind}
-use Rattle.bincode.specs.Numbers.{Edition, fixed, readNum}
+use Rattle.bincode.specs.Numbers.{fixed, readNum}
 use Rattle.bincode.specs.Items.{after, items, counted, plain, stay, many, foldl}
 use Rattle.bincode.proofs.NumberLaws.{read-refused}
 use Rattle.bincode.proofs.ReadLaws.{clash}

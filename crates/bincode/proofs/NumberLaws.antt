@@ -1,8 +1,8 @@
 -- Laws of the numbers' bytes, over the width.
 -- Assumes nothing.
 use Prim.Native.Nat.{ℕ, zero, suc, _+_, _-_, _*_, _/_, _%_, _^_, _≤_, _<_}
-use mathlib.Core.Path.{_≡_, refl, sym, ap, _∙_, subst}
-use mathlib.Core.List.{List, [], _∷_, _++_}
+use mathlib.Core.Path.{_≡_, refl, sym, ap, subst}
+use mathlib.Core.List.{List, [], _∷_}
 use mathlib.Core.Bool.{Bool, true, false, cond}
 use native.Mathlib.Omega.{arith}
 use native.Mathlib.Nat.{pow-suc, pow-le-pow-right, div-lt-iff-lt-mul}
@@ -10,7 +10,7 @@ use lib.Dec.{lit<, leb}
 use lib.ListN.{length, take, drop, getD, set, length-take}
 use lib.Seq.{sets, drop-cons, getD-drop}
 use borrow.Author.Tests.{le-leb, lt-leb, leb-true}
-use Rattle.bincode.specs.Read.{Read, value, refuse}
+use Rattle.bincode.specs.Read.{value, refuse}
 use Rattle.bincode.specs.Numbers.{le, bytesOf, readNum}
 use Rattle.bincode.specs.Stands.{Bytes}
 

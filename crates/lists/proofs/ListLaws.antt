@@ -1,13 +1,13 @@
 -- Laws of lists that code holds as an array with a count.
 -- Assumes nothing.
 use Prim.Native.Nat.{ℕ, zero, suc, _+_, _-_, _≤_, _<_}
-use mathlib.Core.Path.{_≡_, refl, sym, ap, _∙_}
+use mathlib.Core.Path.{_≡_, refl, sym, ap}
 use mathlib.Core.List.{List, [], _∷_, _++_, append-assoc}
 use mathlib.Core.Bool.{Bool, true, false, cond, _&&_}
 use native.Mathlib.Omega.{arith}
 use native.Mathlib.Numerals.{add-one}
 use lib.ListN.{length, take, drop, getD, set, replicate, length-append, length-take, length-replicate, drop-of-length-le}
-use lib.Seq.{drop-cons, getD-take, set-at, take-at, length-take-le}
+use lib.Seq.{drop-cons, getD-take, set-at, take-at}
 use Rattle.lists.specs.Lists.{padded, eqList}
 
 -- which of two a test picks, where the test is a field or an element and not to be rewritten elsewhere
@@ -19,20 +19,25 @@ module _ {A : Type 0} {b : Bool} (x y : A) where
   cond-no e = rw e
 
 module _ {A : Type 0} where
-  -- the places from i on of the first n: one, and those from i + 1 on
-  pub rest-more : (xs : List A) (n i : ℕ) (z : A) → i < n → n ≤ length xs
-      → drop i (take n xs) ≡ getD xs i z ∷ drop (i + 1) (take n xs)
-  rest-more xs n i z h k =
-      let l : i < length (take n xs) = simp length-take (omega arith) in
+  -- what is left from place i on: the element there, and what is left behind it
+  pub rest-more : (xs : List A) (n i : ℕ) (z : A) → i < length (take n xs) → drop i (take n xs) ≡ getD xs i z ∷ drop (i + 1) (take n xs)
+  rest-more xs n i z l =
+      let h : i < n = omega (arith, length-take n xs) in
       rw (add-one, drop-cons (take n xs) i z l, getD-take n xs i z h)
 
-  -- no place is left
-  pub rest-none : (xs : List A) (n i : ℕ) → n ≤ i → drop i (take n xs) ≡ []
-  rest-none xs n i h = drop-of-length-le (take n xs) (let l : length (take n xs) ≤ i = simp length-take (omega arith) in l)
+  -- nothing is left
+  pub rest-none : (xs : List A) (i : ℕ) → length xs ≤ i → drop i xs ≡ []
+  rest-none xs i h = drop-of-length-le xs h
 
   -- a count past the array counts as the array's length
   pub length-live : (xs : List A) (n limit : ℕ) → length xs ≡ limit → (n ≤ limit → length (take n xs) ≡ n) × (limit ≤ n → length (take n xs) ≡ limit)
   length-live xs n limit e = (λ h. simp length-take (omega arith), λ h. simp length-take (omega arith))
+
+  -- cut to its own length, what was cut stays as it is
+  pub take-live : (n : ℕ) (xs : List A) → take (length (take n xs)) xs ≡ take n xs
+  take-live zero xs = refl
+  take-live (suc n) [] = refl
+  take-live (suc n) (x ∷ xs) = ap (λ (ys : List A). x ∷ ys) (take-live n xs)
 
   -- a list held in an array of n places
   module _ (n : ℕ) (none : A) where
@@ -82,16 +87,16 @@ module _ {A : Type 0} where
     eqList-refl one (x ∷ xs) = rw (one x) (eqList-refl one xs)
 
     -- turns of a loop that compares place by place
-    module _ (xs ys : List A) (n i : ℕ) (z : A) (hx : n ≤ length xs) (hy : n ≤ length ys) where
-      pub eq-turn : i < n → eq (getD xs i z) (getD ys i z) ≡ true
-          → eqList eq (drop i (take n xs)) (drop i (take n ys)) ≡ eqList eq (drop (i + 1) (take n xs)) (drop (i + 1) (take n ys))
-      unfolding eqList
-      eq-turn h e = rw (rest-more xs n i z h hx, rest-more ys n i z h hy, e)
+    module _ (xs ys : List A) (i : ℕ) where
+      module _ (x y : A) (hx : drop i xs ≡ x ∷ drop (i + 1) xs) (hy : drop i ys ≡ y ∷ drop (i + 1) ys) where
+        pub eq-turn : eq x y ≡ true → eqList eq (drop i xs) (drop i ys) ≡ eqList eq (drop (i + 1) xs) (drop (i + 1) ys)
+        unfolding eqList
+        eq-turn e = rw (hx, hy, e)
 
-      pub eq-stop : i < n → eq (getD xs i z) (getD ys i z) ≡ false → eqList eq (drop i (take n xs)) (drop i (take n ys)) ≡ false
-      unfolding eqList
-      eq-stop h e = rw (rest-more xs n i z h hx, rest-more ys n i z h hy, e)
+        pub eq-stop : eq x y ≡ false → eqList eq (drop i xs) (drop i ys) ≡ false
+        unfolding eqList
+        eq-stop e = rw (hx, hy, e)
 
-      pub eq-end : n ≤ i → eqList eq (drop i (take n xs)) (drop i (take n ys)) ≡ true
+      pub eq-end : length xs ≤ i → length ys ≤ i → eqList eq (drop i xs) (drop i ys) ≡ true
       unfolding eqList
-      eq-end h = rw (rest-none xs n i h, rest-none ys n i h)
+      eq-end h k = rw (rest-none xs i h, rest-none ys i k)

@@ -1,18 +1,14 @@
-use Prim.Native.Nat.{ℕ, zero, suc, _+_, _-_, _*_, _^_, _≤_, _<_}
-use mathlib.Core.Path.{_≡_, refl, sym, ap, _∙_}
+use Prim.Native.Nat.{_+_, _-_, _≤_}
+use mathlib.Core.Path.{_≡_, _∙_}
 use native.Mathlib.Omega.{arith}
 use borrow.Author.Needs.{needs}
-use lib.ListN.{length, take, drop, getD, set, length-set}
-use lib.Seq.{sets}
+use lib.ListN.{take, drop}
 use denote.Ref.{now}
-use Rattle.bincode.specs.Numbers.{le, bytesOf}
+use Rattle.bincode.specs.Numbers.{le}
 use native.Mathlib.Nat.{add-zero, sub-zero, sub-self}
 use Rattle.bincode.proofs.NumberLaws.{num-step, part-below}
 use Rattle.bincode.proofs.num_at.Statement.{statement}
 use Rattle.bincode.proofs.num_at.Tie as tie
-use Rattle.bincode.proofs.num_at.Reads as reads
-use Rattle.bincode.proofs.num_at.Lts as lts
-use Rattle.bincode.proofs.wide.Reads as wide-reads
 
 abbrev Inv-loop : tie.InvT-loop
 Inv-loop s at w v₀ k₀ v k = (k ≤ w) × (v ≡ le (take (w - k) (drop (at + k) s)))

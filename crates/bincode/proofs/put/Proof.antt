@@ -1,17 +1,14 @@
-use Prim.Native.Nat.{ℕ, zero, suc, _+_, _-_, _*_, _^_, _≤_, _<_}
-use mathlib.Core.Path.{_≡_, refl, sym, ap, _∙_}
+use Prim.Native.Nat.{_+_, _-_, _≤_}
+use mathlib.Core.Path.{_≡_, refl, sym, _∙_}
 use native.Mathlib.Omega.{arith}
 use borrow.Author.Needs.{needs}
-use lib.ListN.{length, take, drop, getD, set, length-set}
+use lib.ListN.{length, length-set}
 use lib.Seq.{sets}
-use Rattle.bincode.specs.Numbers.{le, bytesOf}
-use native.Mathlib.Nat.{add-zero, sub-zero, sub-self, pow-le-pow-right}
-use lib.Dec.{lit<}
+use Rattle.bincode.specs.Numbers.{bytesOf}
+use native.Mathlib.Nat.{add-zero, sub-zero}
 use Rattle.bincode.proofs.NumberLaws.{put-step}
 use Rattle.bincode.proofs.put.Statement.{statement}
 use Rattle.bincode.proofs.put.Tie as tie
-use Rattle.bincode.proofs.put.Reads as reads
-use Rattle.bincode.proofs.put.Lts as lts
 
 abbrev Inv-loop : tie.InvT-loop
 Inv-loop buf₀ at w x v₀ k₀ buf v k = (k ≤ w) × (length buf ≡ length buf₀) × (sets buf (at + k) (bytesOf (w - k) v) ≡ sets buf₀ at (bytesOf w x))

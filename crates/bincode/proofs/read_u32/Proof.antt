@@ -5,9 +5,6 @@ use denote.Ref.{now}
 use Rattle.bincode.proofs.NumberLaws.{read-cut, read-whole, part-below}
 use Rattle.bincode.proofs.read_u32.Statement.{statement}
 use Rattle.bincode.proofs.read_u32.Tie as tie
-use Rattle.bincode.proofs.read_u32.Reads as reads
-use Rattle.bincode.proofs.read_u32.Lts as lts
-use Rattle.bincode.proofs.num_at.Reads as num-at-reads
 
 returns : tie.Need-returns
 returns c = sym (read-cut 4 _ _ (omega arith))

@@ -1,13 +1,9 @@
 use borrow.Author.Needs.{needs}
 use native.Mathlib.Omega.{arith}
 use mathlib.Core.Path.{sym}
-use denote.Ref.{now}
 use Rattle.bincode.proofs.NumberLaws.{read-cut, read-whole}
 use Rattle.bincode.proofs.read_u64.Statement.{statement}
 use Rattle.bincode.proofs.read_u64.Tie as tie
-use Rattle.bincode.proofs.read_u64.Reads as reads
-use Rattle.bincode.proofs.read_u64.Lts as lts
-use Rattle.bincode.proofs.num_at.Reads as num-at-reads
 
 returns : tie.Need-returns
 returns c = sym (read-cut 8 _ _ (omega arith))

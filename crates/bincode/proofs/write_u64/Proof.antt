@@ -5,9 +5,6 @@ use denote.Ref.{now}
 use Rattle.bincode.proofs.WriteLaws.{number-no-room, number-has-room}
 use Rattle.bincode.proofs.write_u64.Statement.{statement}
 use Rattle.bincode.proofs.write_u64.Tie as tie
-use Rattle.bincode.proofs.write_u64.Reads as reads
-use Rattle.bincode.proofs.write_u64.Lts as lts
-use Rattle.bincode.proofs.put.Reads as put-reads
 
 returns : tie.Need-returns
 returns c = number-no-room _ _ 8 _ (omega arith)

@@ -1,0 +1,36 @@
+-- Reading and writing a map are inverse, in every edition and for every size.
+-- Assumes nothing.
+use Prim.Native.Nat.{ℕ, _^_, _≤_, _<_}
+use mathlib.Core.Path.{_≡_, refl}
+use mathlib.Core.List.{List}
+use mathlib.Core.Bool.{_||_}
+use lib.Dec.{ltb, eqb, lit<}
+use borrow.Author.Tests.{le-ltb, ne-eqb, ltb-false, eqb-false}
+use Rattle.bincode.specs.Numbers.{Edition}
+use Rattle.bincode.specs.Sizes.{Sizes}
+use Rattle.bincode.specs.Codes.{Codes, NumberCodes}
+use Rattle.bincode.proofs.ReadLaws.{or-false}
+use Rattle.bincode.proofs.CodeLaws.{field, guard, ended, restate, counted-codes}
+use Rattle.pub_key_map.specs.PubKeyMap.{readNode, readMap, following, nodeBytes, mapBytes, NodeOk, MapOk}
+
+module _ (e : Edition) (s : List ℕ) (num : NumberCodes e s) where
+  pub node-codes : (low : ℕ) → Codes s (readNode e s low) (nodeBytes e) (NodeOk low)
+  unfolding readNode nodeBytes
+  node-codes low =
+      restate
+      (λ n o. record { ascends = o .1 .1 .1 .0; id-fits = o .1 .0; key-fits = o .1 .1 .0; is-key = o .1 .1 .1 .1 })
+      (λ n o. (tt, (o .id-fits, (o .key-fits, (o .ascends, o .is-key)))))
+      (field {H = λ n. Unit {0}} (λ n. n .id) (num 4 (lit< tt)) λ id.
+      field {Q = λ n. (low ≤ n .id) × (n .key ≡ 0 → ⊥)} (λ n. n .key) (num 8 (lit< tt)) λ key.
+      guard {P = λ n. ((Unit {0} × (n .id ≡ id)) × (n .key ≡ key)) × ((low ≤ n .id) × (n .key ≡ 0 → ⊥))} (ltb id low || eqb key 0) 2
+      (λ t.
+      let u = or-false (ltb id low) (eqb key 0) t in
+      restate (λ n o. (o .0, (rw (o .0 .0 .1) (ltb-false id low (u .0)), rw (o .0 .1) (eqb-false key 0 (u .1))))) (λ n o. (o .0, tt))
+      (ended (record { id = id; key = key }) ((tt, refl), refl) (λ n h. λ i. record { id = h .0 .1 i; key = h .1 i })))
+      (λ n o. rw (← o .0 .0 .1, ← o .0 .1, le-ltb (n .id) low (o .1 .0), ne-eqb (n .key) 0 (o .1 .1))))
+
+  pub map-codes : (z : Sizes) → z .nodes < 256 ^ 8 → Codes s (readMap e z s) (mapBytes e) (MapOk z)
+  unfolding readMap mapBytes
+  map-codes z fits =
+      restate (λ ns o. record { few = o .0; each = o .1 }) (λ ns o. (o .few, o .each))
+      (counted-codes s (readNode e s) following (nodeBytes e) NodeOk node-codes e num (z .nodes) fits 0)
