@@ -14,8 +14,8 @@ use lib.Seq.{length-take-le}
 use borrow.Author.Tests.{eqb-true, eqb-false, ltb-false, le-ltb}
 use Rattle.bincode.specs.Read.{Read, value, refuse, bind, whole}
 use Rattle.bincode.specs.Numbers.{le, bytesOf, readNum, Edition, fixed}
-use Rattle.bincode.specs.Items.{after, items, counted, plain, many}
-use Rattle.bincode.specs.Stands.{Bytes, Stands, concatMap, Each}
+use Rattle.bincode.specs.Items.{items, counted, plain, stay}
+use Rattle.bincode.specs.Stands.{Bytes, Stands, concatMap, Each, All}
 use Rattle.bincode.specs.Codes.{Codes, NumberCodes}
 use Rattle.bincode.proofs.NumberLaws.{length-bytesOf, le-bytesOf, bytesOf-le, bytes-bytesOf, bytes-part, part-below, read-whole, read-value}
 use Rattle.bincode.proofs.ReadLaws.{clash, bind-value, cond-value}
@@ -195,8 +195,9 @@ module _ {S A : Type 0} (s : List ℕ) (rd : S → ℕ → Read A) (next : S →
 
 -- the same for items that do not depend on those before them
 module _ {A : Type 0} (s : List ℕ) (rd : ℕ → Read A) (enc : A → List ℕ) (Ok : A → Type 0) (one : Codes s rd enc Ok) where
-  pub plain-codes : (u : Unit {0}) → Codes s (plain rd u) enc Ok
-  plain-codes u = one
+  pub plain-codes : (limit : ℕ) → limit < 256 ^ 8
+      → Codes s (counted (plain rd) stay fixed s limit tt) (λ xs. bytesOf 8 (length xs) ++ concatMap enc xs) (λ xs. (length xs ≤ limit) × All Ok xs)
+  plain-codes limit fits = counted-codes s (plain rd) stay enc (λ u. Ok) (λ u. one) fixed (fixed-codes s) limit fits tt
 
 -- What the inverse laws come to for a whole input: each value that some bytes are read as has just one accepted encoding, its own.
 module _ {A : Type 0} (rd : List ℕ → ℕ → Read A) (enc : A → List ℕ) (Ok : A → Type 0) (codes : (s : List ℕ) → Codes s (rd s) enc Ok) where

@@ -94,14 +94,14 @@ module _ {A B : Type 0} (f : B → A → B) where
 -- the same with no state between the items
 module _ {A : Type 0} (rd : ℕ → Read A) where
   pub many-start : (n at : ℕ) → many rd n at ≡ after [] (many rd (n - 0) at)
-  many-start n at = items-start (plain rd) (stay rd) n tt at
+  many-start n at = items-start (plain rd) stay n tt at
 
   pub many-turn : (done : List A) (n i at : ℕ) (a : A) (c : ℕ) → i < n → rd at ≡ value a c
       → after done (many rd (n - i) at) ≡ after (done ++ (a ∷ [])) (many rd (n - (i + 1)) c)
-  many-turn done n i at a c = items-turn (plain rd) (stay rd) done n i tt at a c
+  many-turn done n i at a c = items-turn (plain rd) stay done n i tt at a c
 
   pub many-refused : (done : List A) (n i at k : ℕ) → i < n → rd at ≡ refuse k → after done (many rd (n - i) at) ≡ refuse k
-  many-refused done n i at k = items-refused (plain rd) (stay rd) done n i tt at k
+  many-refused done n i at k = items-refused (plain rd) stay done n i tt at k
 
   pub many-end : (done : List A) (n i at : ℕ) → n ≤ i → after done (many rd (n - i) at) ≡ value done at
-  many-end done n i at = items-end (plain rd) (stay rd) done n i tt at
+  many-end done n i at = items-end (plain rd) stay done n i tt at

@@ -23,12 +23,13 @@ module _ {S A : Type 0} (rd : S → ℕ → Read A) (next : S → A → S) where
   counted e s limit st at = bind (e .read 8 s at) λ n c. cond (ltb limit n) (refuse 3) (items n st c)
 
 -- the same for items that do not depend on those before them
+module _ {A : Type 0} where
+  abbrev pub stay : Unit {0} → A → Unit {0}
+  stay u a = u
+
 module _ {A : Type 0} (rd : ℕ → Read A) where
   abbrev pub plain : Unit {0} → ℕ → Read A
   plain u at = rd at
-
-  abbrev pub stay : Unit {0} → A → Unit {0}
-  stay u a = u
 
   abbrev pub many : ℕ → ℕ → Read (List A)
   many n at = items plain stay n tt at

@@ -6,3 +6,4 @@ pub mod Codes
 pub mod Writing
 pub mod Answer
 pub mod Sizes
+pub mod Outcome

@@ -3,6 +3,7 @@ use Prim.Native.Nat.{ℕ, _<_}
 use mathlib.Core.Path.{_≡_}
 use mathlib.Core.List.{List, [], _∷_, _++_}
 use lib.ListN.{length, take, drop, getD}
+use Rattle.bincode.specs.Items.{stay}
 
 -- each element is a byte
 abbrev pub Bytes : List ℕ → Type 0
@@ -28,3 +29,8 @@ module _ {S A : Type 0} (next : S → A → S) (Ok : S → A → Type 0) where
   abbrev pub Each : S → List A → Type 0
   Each st [] = Unit {0}
   Each st (x ∷ xs) = Ok st x × Each (next st x) xs
+
+-- what is asked of each item, whatever stands before it
+module _ {A : Type 0} (Ok : A → Type 0) where
+  abbrev pub All : List A → Type 0
+  All = Each stay (λ u. Ok) tt
