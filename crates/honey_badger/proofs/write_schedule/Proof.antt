@@ -1,11 +1,8 @@
 use borrow.Author.Needs.{needs}
+use mathlib.Core.List.{append-nil}
+use Rattle.honey_badger.specs.EncryptionSchedule.{scheduleBytes}
 use Rattle.honey_badger.proofs.write_schedule.Statement.{statement}
 use Rattle.honey_badger.proofs.write_schedule.Tie as tie
-use Rattle.honey_badger.proofs.write_schedule.Reads as reads
-use Rattle.honey_badger.proofs.write_schedule.Lts as lts
-use Rattle.bincode.proofs.write_u32.Reads as write-u32-reads
-use Rattle.honey_badger.proofs.write_every_nth.Reads as write-every-nth-reads
-use Rattle.honey_badger.proofs.write_tick_tock.Reads as write-tick-tock-reads
 
 enum-told : tie.Need-enum-told
 enum-told c = search needs
@@ -35,25 +32,27 @@ same-length : tie.Need-same-length
 same-length c = search needs
 
 returns : tie.Need-returns
-returns c = search needs
+unfolding scheduleBytes
+returns c = rw (c .before .before .before .before .enum-told .given .1, append-nil) (c .before .before .write-u32 .ensures)
 
 same-length-2 : tie.Need-same-length-2
 same-length-2 c = search needs
 
 returns-2 : tie.Need-returns-2
-returns-2 c = search needs
+unfolding scheduleBytes
+returns-2 c = rw (c .before .before .before .before .enum-told2 .given .1, append-nil) (c .before .before .write-u322 .ensures)
 
 same-length-3 : tie.Need-same-length-3
 same-length-3 c = search needs
 
 returns-3 : tie.Need-returns-3
-returns-3 c = search needs
+returns-3 c = rw (c .before .before .before .before .before .x .given .1) (c .before .before .write-every-nth .ensures)
 
 same-length-4 : tie.Need-same-length-4
 same-length-4 c = search needs
 
 returns-4 : tie.Need-returns-4
-returns-4 c = search needs
+returns-4 c = rw (c .before .before .before .before .before .x2 .given .1) (c .before .before .write-tick-tock .ensures)
 
 pub write-schedule-spec : {M : Type 1} → statement M
 write-schedule-spec =

@@ -1,8 +1,8 @@
 use borrow.Author.Needs.{needs}
+use mathlib.Core.Path.{sym, ap}
+use Rattle.honey_badger.specs.EncryptionSchedule.{fieldsOf}
 use Rattle.honey_badger.proofs.EncryptionSchedule.fields.Statement.{statement}
 use Rattle.honey_badger.proofs.EncryptionSchedule.fields.Tie as tie
-use Rattle.honey_badger.proofs.EncryptionSchedule.fields.Reads as reads
-use Rattle.honey_badger.proofs.EncryptionSchedule.fields.Lts as lts
 
 enum-told : tie.Need-enum-told
 enum-told c = search needs
@@ -17,16 +17,16 @@ enum-known-self-2 : tie.Need-enum-known-self-2
 enum-known-self-2 c = search needs
 
 returns : tie.Need-returns
-returns c = search needs
+returns c = ap fieldsOf (sym (c .enum-told .given .1))
 
 returns-2 : tie.Need-returns-2
-returns-2 c = search needs
+returns-2 c = ap fieldsOf (sym (c .enum-told2 .given .1))
 
 returns-3 : tie.Need-returns-3
-returns-3 c = search needs
+returns-3 c = ap fieldsOf (sym (c .before .self .given .1))
 
 returns-4 : tie.Need-returns-4
-returns-4 c = search needs
+returns-4 c = ap fieldsOf (sym (c .before .self2 .given .1))
 
 pub fields-spec : {M : Type 1} → statement M
 fields-spec =

@@ -1,10 +1,7 @@
 use borrow.Author.Needs.{needs}
+use Rattle.honey_badger.specs.EncryptionSchedule.{useOnEpoch, row14, encrypts}
 use Rattle.honey_badger.proofs.EncryptionSchedule.use_on_epoch.Statement.{statement}
 use Rattle.honey_badger.proofs.EncryptionSchedule.use_on_epoch.Tie as tie
-use Rattle.honey_badger.proofs.EncryptionSchedule.use_on_epoch.Reads as reads
-use Rattle.honey_badger.proofs.EncryptionSchedule.use_on_epoch.Lts as lts
-use Rattle.honey_badger.proofs.every_nth.Reads as every-nth-reads
-use Rattle.honey_badger.proofs.tick_tock.Reads as tick-tock-reads
 
 enum-told : tie.Need-enum-told
 enum-told c = search needs
@@ -25,16 +22,18 @@ tick-tock-requires : tie.Need-tick-tock-requires
 tick-tock-requires c κs = search needs
 
 returns : tie.Need-returns
-returns c = search needs
+unfolding useOnEpoch row14 encrypts
+returns c = rw (c .enum-told .given .1)
 
 returns-2 : tie.Need-returns-2
-returns-2 c = search needs
+unfolding useOnEpoch row14 encrypts
+returns-2 c = rw (c .enum-told2 .given .1)
 
 returns-3 : tie.Need-returns-3
-returns-3 c = search needs
+returns-3 c = rw (c .before .before .self .given .1) (c .every-nth .ensures)
 
 returns-4 : tie.Need-returns-4
-returns-4 c = search needs
+returns-4 c = rw (c .before .before .self2 .given .1) (c .tick-tock .ensures)
 
 pub use-on-epoch-spec : {M : Type 1} → statement M
 use-on-epoch-spec =

@@ -1,0 +1,2 @@
+pub mod ParamsLaws
+pub mod ParamsCodes
