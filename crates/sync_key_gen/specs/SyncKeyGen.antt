@@ -5,7 +5,7 @@ use mathlib.Core.Bool.{Bool}
 use lib.ListN.{length, take}
 use lib.Dec.{eqb}
 use Rattle.lists.specs.Lists.{padded, eqList}
-use Rattle.bincode.specs.Read.{Read, value, refuse, bind}
+use Rattle.bincode.specs.Read.{Read, value, bind}
 use Rattle.bincode.specs.Numbers.{readNum, bytesOf, fixed}
 use Rattle.bincode.specs.Sizes.{Sizes, base}
 use Rattle.bincode.specs.Items.{counted, plain, stay}

@@ -1,0 +1,2 @@
+pub mod KeyGenLaws
+pub mod KeyGenCodes
