@@ -183,15 +183,21 @@ module _ {S A : Type 0} (s : List ℕ) (rd : S → ℕ → Read A) (next : S →
       }
 
   -- a count and as many items
-  pub counted-codes : (e : Edition) → NumberCodes e s → (limit : ℕ) → limit < 256 ^ 8 → (st : S)
-      → Codes s (counted rd next e s limit st) (λ xs. e .bytes 8 (length xs) ++ concatMap enc xs) (λ xs. (length xs ≤ limit) × Each next Ok st xs)
+  pub counted-any : (e : Edition) → NumberCodes e s → (limit : ℕ) (st : S)
+      → Codes s (counted rd next e s limit st) (λ xs. e .bytes 8 (length xs) ++ concatMap enc xs) (λ xs. (length xs < 256 ^ 8) × (length xs ≤ limit) × Each next Ok st xs)
   unfolding counted
-  counted-codes e num limit fits st =
-      restate (λ xs o. (o .1 .1 .0, o .1 .1 .1)) (λ xs o. let l = o .0 in (tt, (omega arith, o)))
+  counted-any e num limit st =
+      restate (λ xs o. (o .1 .0, o .1 .1 .0, o .1 .1 .1)) (λ xs o. (tt, (o .0, (o .1, o .2))))
       (field {H = λ xs. Unit {0}} length (num 8 (lit< tt)) λ n.
       guard (ltb limit n) 3
       (λ t. restate (λ xs o. let l = ltb-false limit n t in ((tt, o .0), (omega arith, o .1))) (λ xs o. (o .0 .1, o .1 .1)) (items-codes n st))
       (λ xs o. let l = o .0 .1 in le-ltb limit n (omega (arith, o .1 .0))))
+
+  -- the same where the limit itself is a u64
+  pub counted-codes : (e : Edition) → NumberCodes e s → (limit : ℕ) → limit < 256 ^ 8 → (st : S)
+      → Codes s (counted rd next e s limit st) (λ xs. e .bytes 8 (length xs) ++ concatMap enc xs) (λ xs. (length xs ≤ limit) × Each next Ok st xs)
+  counted-codes e num limit fits st =
+      restate (λ xs o. (o .1, o .2)) (λ xs o. let l = o .0 in (omega arith, o .0, o .1)) (counted-any e num limit st)
 
 -- the same for items that do not depend on those before them
 module _ {A : Type 0} (s : List ℕ) (rd : ℕ → Read A) (enc : A → List ℕ) (Ok : A → Type 0) (one : Codes s rd enc Ok) where

@@ -5,6 +5,7 @@ use mathlib.Core.Path.{_≡_, refl, sym, ap, _∙_}
 use mathlib.Core.List.{List, [], _∷_, _++_, append-assoc, append-nil}
 use native.Mathlib.Omega.{arith}
 use native.Mathlib.Nat.{sub-zero}
+use lib.ListN.{length}
 use borrow.Author.Tests.{lt-ltb, le-ltb}
 use Rattle.bincode.specs.Read.{Read, value, refuse, bind}
 use Rattle.bincode.specs.Numbers.{fixed, readNum}
@@ -64,6 +65,14 @@ module _ {S A : Type 0} (rd : S → ℕ → Read A) (next : S → A → S) where
           → (a : A) × (d : ℕ) × (ys : List A) × (rd st at ≡ value a d) × (items rd next n (next st a) d ≡ value ys c) × (xs ≡ a ∷ ys)
       go (value a d) r p = more a d r (items rd next n (next st a) d) refl p
       go (refuse k) r p = absurd (clash (refuse k) p refl)
+
+  -- as many items as were asked for
+  pub length-items : (n : ℕ) (st : S) (at : ℕ) (xs : List A) (c : ℕ) → items rd next n st at ≡ value xs c → length xs ≡ n
+  unfolding items
+  length-items zero st at xs c p = let e : xs ≡ [] = cc in ap length e
+  length-items (suc n) st at xs c p =
+      let u = uncons n st at xs c p in
+      ap length (u .5) ∙ ap suc (length-items n (next st (u .0)) (u .1) (u .2) c (u .4))
 
   -- a counted run goes by its count, for the fixed widths
   module _ (s : List ℕ) (limit : ℕ) (st : S) (at : ℕ) where

@@ -1,0 +1,2 @@
+pub mod InternalContrib
+pub mod Places
