@@ -188,7 +188,7 @@ module _ {S A : Type 0} (s : List ℕ) (rd : S → ℕ → Read A) (next : S →
   unfolding counted
   counted-any e num limit st =
       restate (λ xs o. (o .1 .0, o .1 .1 .0, o .1 .1 .1)) (λ xs o. (tt, (o .0, (o .1, o .2))))
-      (field {H = λ xs. Unit {0}} length (num 8 (lit< tt)) λ n.
+      (field {H = λ xs. Unit {0}} {Q = λ xs. (length xs ≤ limit) × Each next Ok st xs} length (num 8 (lit< tt)) λ n.
       guard (ltb limit n) 3
       (λ t. restate (λ xs o. let l = ltb-false limit n t in ((tt, o .0), (omega arith, o .1))) (λ xs o. (o .0 .1, o .1 .1)) (items-codes n st))
       (λ xs o. let l = o .0 .1 in le-ltb limit n (omega (arith, o .1 .0))))
