@@ -1,14 +1,15 @@
 -- What an answer says of the answers that it was made of.
 -- Assumes nothing.
 use Prim.Native.Nat.{ℕ, _≤_, _<_}
-use mathlib.Core.Path.{_≡_, refl, ap}
+use mathlib.Core.Path.{_≡_, refl, sym, ap, _∙_}
 use mathlib.Core.List.{List}
 use mathlib.Core.Bool.{Bool, true, false, cond, _||_}
 use native.Mathlib.Omega.{arith}
 use lib.ListN.{length}
 use borrow.Author.Tests.{lt-ltb, le-ltb}
-use Rattle.bincode.specs.Read.{Read, value, refuse, bind, mapRead, whole}
-use Rattle.bincode.specs.Answer.{stepOf}
+use Rattle.bincode.specs.Read.{Read, value, refuse, bind, numberOf, mapRead, whole}
+use Rattle.bincode.specs.Answer.{stepOf, heldOf, saidStep}
+use Rattle.bincode.specs.declared.Step.{Step}
 use Rattle.bincode.specs.declared.Step.the-variants.{Next, Refused}
 
 module _ {A : Type 0} (x : Read A) where
@@ -56,6 +57,16 @@ module _ {A : Type 0} where
   pub step-refused : (x : Read A) (n : ℕ) → stepOf x ≡ Refused n → x ≡ refuse n
   step-refused (value a d) n p = let z : _≡_ {A = ℕ} 0 1 = cc in absurd (let y : ⊥ = omega arith in y)
   step-refused (refuse m) n p = let e : m ≡ n = cc in ap refuse e
+
+-- what a step, and the value beside it, tell of the reading that they came from
+module _ {A : Type 0} (x : Read A) (t : Step) (e : t ≡ stepOf x) where
+  module _ {B : Type 0} (held : A → B) (empty b : B) (h : b ≡ heldOf held empty x) where
+    pub held-next : (c : ℕ) → t ≡ Next c → (a : A) × (x ≡ value a c) × (b ≡ held a)
+    held-next c p = let u = step-next x c (sym e ∙ p) in (u .0, u .1, h ∙ ap (heldOf held empty) (u .1))
+
+  -- a refusal goes on with the number that the step has
+  pub number-refused : (n m : ℕ) → t ≡ Refused n → m ≡ numberOf (saidStep t) → x ≡ refuse m
+  number-refused n m p k = step-refused x n (sym e ∙ p) ∙ ap refuse (sym (k ∙ ap (λ (s : Step). numberOf (saidStep s)) p))
 
 -- reading a whole input goes by the reading and one test
 module _ {A : Type 0} (rd : ℕ → Read A) (s : List ℕ) where

@@ -2,11 +2,11 @@
 -- Assumes nothing.
 use Prim.Native.Nat.{ℕ, _≤_, _<_}
 use mathlib.Core.Path.{_≡_, refl, sym, ap, _∙_}
-use mathlib.Core.Bool.{Bool, true, false, cond, _&&_}
-use native.Mathlib.Omega.{arith}
+use mathlib.Core.Bool.{true, cond}
 use lib.Dec.{eqb}
 use lib.ListN.{length, length-append}
 use borrow.Author.Tests.{lt-ltb, le-ltb, eq-eqb, ne-eqb, eqb-true}
+use Rattle.lists.proofs.ListLaws.{and-both}
 use Rattle.bincode.specs.Outcome.{done, refused}
 use Rattle.bincode.specs.Numbers.{fixed}
 use Rattle.bincode.proofs.NumberLaws.{length-bytesOf}
@@ -45,18 +45,13 @@ schedule-of (TickTock on off) = refl
 -- equality of schedules is equality
 fields-true : (a b : Fields) → sameFields a b ≡ true → a ≡ b
 unfolding sameFields
-fields-true a b e = go (eqb (a .tag) (b .tag)) refl (eqb (a .first) (b .first)) refl (eqb (a .second) (b .second)) refl e
-  where
-    go : (p : Bool) → eqb (a .tag) (b .tag) ≡ p → (q : Bool) → eqb (a .first) (b .first) ≡ q → (r : Bool) → eqb (a .second) (b .second) ≡ r
-        → (p && (q && r)) ≡ true → a ≡ b
-    go true e true f true g h =
-        let t = eqb-true _ _ e in
-        let x = eqb-true _ _ f in
-        let y = eqb-true _ _ g in
-        λ i. record { tag = t i; first = x i; second = y i }
-    go true e true f false g h = let z : _≡_ {A = ℕ} 0 1 = ap (λ (b : Bool). cond b 1 0) h in absurd (let y : ⊥ = omega arith in y)
-    go true e false f r g h = let z : _≡_ {A = ℕ} 0 1 = ap (λ (b : Bool). cond b 1 0) h in absurd (let y : ⊥ = omega arith in y)
-    go false e q f r g h = let z : _≡_ {A = ℕ} 0 1 = ap (λ (b : Bool). cond b 1 0) h in absurd (let y : ⊥ = omega arith in y)
+fields-true a b e =
+    let u = and-both (eqb (a .tag) (b .tag)) _ e in
+    let v = and-both (eqb (a .first) (b .first)) (eqb (a .second) (b .second)) (u .1) in
+    let tag = eqb-true (a .tag) (b .tag) (u .0) in
+    let first = eqb-true (a .first) (b .first) (v .0) in
+    let second = eqb-true (a .second) (b .second) (v .1) in
+    λ i. record { tag = tag i; first = first i; second = second i }
 
 pub schedule-true : (a b : EncryptionSchedule) → sameSchedule a b ≡ true → a ≡ b
 schedule-true a b e = sym (schedule-of a) ∙ ap scheduleOf (fields-true (fieldsOf a) (fieldsOf b) e) ∙ schedule-of b

@@ -1,7 +1,7 @@
 -- A key-generation message, and one signed: as code holds them, equality, bytes.
 use Prim.Native.Nat.{ℕ, _^_, _<_}
 use mathlib.Core.List.{List, [], _∷_}
-use mathlib.Core.Bool.{Bool, true, false, cond, _&&_}
+use mathlib.Core.Bool.{Bool, false, cond, _&&_}
 use lib.Dec.{eqb}
 use Rattle.bincode.specs.Read.{Read, value, refuse, bind}
 use Rattle.bincode.specs.Numbers.{readNum, bytesOf}

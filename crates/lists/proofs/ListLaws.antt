@@ -10,6 +10,15 @@ use lib.ListN.{length, take, drop, getD, set, replicate, length-append, length-t
 use lib.Seq.{drop-cons, getD-take, set-at, take-at}
 use Rattle.lists.specs.Lists.{padded, eqList}
 
+-- a test does not come out both ways
+pub false-true : _≡_ {A = Bool} false true → ⊥
+false-true e = let z : _≡_ {A = ℕ} 0 1 = ap (λ (b : Bool). cond b 1 0) e in omega arith
+
+-- what two tests in a row say
+pub and-both : (a b : Bool) → (a && b) ≡ true → (a ≡ true) × (b ≡ true)
+and-both true b e = (refl, e)
+and-both false b e = absurd (false-true e)
+
 -- which of two a test picks, where the test is a field or an element and not to be rewritten elsewhere
 module _ {A : Type 0} {b : Bool} (x y : A) where
   pub cond-yes : b ≡ true → cond b x y ≡ x
@@ -73,13 +82,13 @@ module _ {A : Type 0} where
     pub eqList-true : ((x y : A) → eq x y ≡ true → x ≡ y) → (xs ys : List A) → eqList eq xs ys ≡ true → xs ≡ ys
     unfolding eqList
     eqList-true one [] [] e = refl
-    eqList-true one [] (y ∷ ys) e = let z : _≡_ {A = ℕ} 0 1 = ap (λ (b : Bool). cond b 1 0) e in absurd (let y : ⊥ = omega arith in y)
-    eqList-true one (x ∷ xs) [] e = let z : _≡_ {A = ℕ} 0 1 = ap (λ (b : Bool). cond b 1 0) e in absurd (let y : ⊥ = omega arith in y)
+    eqList-true one [] (y ∷ ys) e = absurd (false-true e)
+    eqList-true one (x ∷ xs) [] e = absurd (false-true e)
     eqList-true one (x ∷ xs) (y ∷ ys) e = go (eq x y) refl e (eqList-true one xs ys)
       where
         go : (b : Bool) → eq x y ≡ b → (b && eqList eq xs ys) ≡ true → (eqList eq xs ys ≡ true → xs ≡ ys) → x ∷ xs ≡ y ∷ ys
         go true e f ih = rw (one x y e, ih f)
-        go false e f ih = let z : _≡_ {A = ℕ} 0 1 = ap (λ (b : Bool). cond b 1 0) f in absurd (let y : ⊥ = omega arith in y)
+        go false e f ih = absurd (false-true f)
 
     pub eqList-refl : ((x : A) → eq x x ≡ true) → (xs : List A) → eqList eq xs xs ≡ true
     unfolding eqList

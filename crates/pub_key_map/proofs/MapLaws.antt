@@ -1,14 +1,14 @@
 -- Laws of maps: their length in bytes, equality, and the turns of the loops over them.
 -- Assumes nothing.
-use Prim.Native.Nat.{ℕ, _+_, _*_}
-use mathlib.Core.Path.{_≡_, refl, ap}
+use Prim.Native.Nat.{_+_, _*_}
+use mathlib.Core.Path.{_≡_, refl}
 use mathlib.Core.List.{List, [], _∷_}
-use mathlib.Core.Bool.{Bool, true, false, cond, _&&_}
+use mathlib.Core.Bool.{true}
 use native.Mathlib.Omega.{arith}
 use lib.Dec.{eqb}
 use lib.ListN.{length, length-append}
 use borrow.Author.Tests.{eq-eqb, eqb-true}
-use Rattle.lists.proofs.ListLaws.{eqList-true, eqList-refl}
+use Rattle.lists.proofs.ListLaws.{and-both, eqList-true, eqList-refl}
 use Rattle.bincode.specs.Numbers.{fixed}
 use Rattle.bincode.specs.Stands.{concatMap}
 use Rattle.bincode.proofs.NumberLaws.{length-bytesOf}
@@ -30,12 +30,11 @@ length-map ns = simp (length-append, length-bytesOf, length-nodes)
 -- equality of maps is equality
 node-true : (a b : Node) → sameNode a b ≡ true → a ≡ b
 unfolding sameNode
-node-true a b e = go (eqb (a .id) (b .id)) refl (eqb (a .key) (b .key)) refl e
-  where
-    go : (p : Bool) → eqb (a .id) (b .id) ≡ p → (q : Bool) → eqb (a .key) (b .key) ≡ q → (p && q) ≡ true → a ≡ b
-    go true e true f g = let i = eqb-true _ _ e in let k = eqb-true _ _ f in λ j. record { id = i j; key = k j }
-    go true e false f g = let z : _≡_ {A = ℕ} 0 1 = ap (λ (b : Bool). cond b 1 0) g in absurd (let y : ⊥ = omega arith in y)
-    go false e q f g = let z : _≡_ {A = ℕ} 0 1 = ap (λ (b : Bool). cond b 1 0) g in absurd (let y : ⊥ = omega arith in y)
+node-true a b e =
+    let u = and-both (eqb (a .id) (b .id)) (eqb (a .key) (b .key)) e in
+    let id = eqb-true (a .id) (b .id) (u .0) in
+    let key = eqb-true (a .key) (b .key) (u .1) in
+    λ i. record { id = id i; key = key i }
 
 node-refl : (a : Node) → sameNode a a ≡ true
 unfolding sameNode

@@ -1,0 +1,10 @@
+// Reads lines `KIND HEX` from standard input and answers each: `ok` with the value written again, or the refusal's number.
+// A map and a vote are shown in words too.
+mod hex;
+mod lines;
+mod show;
+
+fn main() {
+    let mut line = [0u8; 140001];
+    lines::read_all(&mut line);
+}
