@@ -340,6 +340,7 @@ fn maps(rng: &mut Rng, out: &mut Out) {
     out.damaged::<Map>("map", &u64::MAX.to_le_bytes(), 3, "count over its size, nothing behind");
     out.damaged::<Map>("map", &16u64.to_le_bytes(), 2, "cut");
     out.damaged::<Map>("map", &[1, 0, 0, 0, 0, 0, 0], 2, "cut");
+    out.damaged::<Map>("map", &[0; 9], 2, "left over");
     let four = enc(&numbered(4));
     out.damaged::<Map>("map", &with_u32(&four, 8 + 12, 1), 2, "id repeated");
     out.damaged::<Map>("map", &with_u32(&four, 8 + 24, 1), 2, "ids unsorted");

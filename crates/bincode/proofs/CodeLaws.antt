@@ -131,6 +131,20 @@ module _ {s : List ℕ} where
         clean = λ a o. absurd (never a o);
       }
 
+-- a case with one field behind its tag is read, written and asked for as the field is
+module _ {s : List ℕ} {X A : Type 0} (tag : X → ℕ) (behind : X → List ℕ) (Ok : X → Type 0) where
+  pub one-field : {rd : ℕ → Read A} {enc : A → List ℕ} (n : ℕ) (into : A → X) (out : X → A)
+      → ((x : X) → tag x ≡ n → x ≡ into (out x)) → ((a : A) → (tag (into a) ≡ n) × (out (into a) ≡ a) × (behind (into a) ≡ enc a ++ []))
+      → Codes s rd enc (λ a. Ok (into a)) → (t : ℕ) → t ≡ n
+      → Codes s (λ c. bind (rd c) λ a d. value (into a) d) behind (λ x. (Unit {0} × (tag x ≡ t)) × Ok x)
+  one-field n into out is back k t q =
+      recode (λ x o. sym (ap behind (is x (o .0 .1 ∙ q)) ∙ back (out x) .2))
+      (restate
+      (λ x o. (o .0, subst Ok (sym (is x (o .0 .1 ∙ q))) (o .1 .0)))
+      (λ x o. (o .0, (subst Ok (is x (o .0 .1 ∙ q)) (o .1), tt)))
+      (field {H = λ x. Unit {0} × (tag x ≡ t)} out k λ a.
+      ended (into a) ((tt, back a .0 ∙ sym q), back a .1) (λ x h. is x (h .0 .1 ∙ q) ∙ ap into (h .1))))
+
 -- a run of items, each after those before it
 module _ {S A : Type 0} (s : List ℕ) (rd : S → ℕ → Read A) (next : S → A → S) (enc : A → List ℕ) (Ok : S → A → Type 0)
     (one : (st : S) → Codes s (rd st) enc (Ok st)) where

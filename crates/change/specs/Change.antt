@@ -1,7 +1,7 @@
 -- A change and its state, as the sums of 01: how code holds them, equality, bytes.
 use Prim.Native.Nat.{ℕ}
 use mathlib.Core.List.{List, [], _∷_}
-use mathlib.Core.Bool.{Bool, true, false, cond}
+use mathlib.Core.Bool.{Bool, false, cond}
 use lib.Dec.{eqb}
 use Rattle.bincode.specs.Read.{Read, value, refuse, bind}
 use Rattle.bincode.specs.Numbers.{Edition}

@@ -235,7 +235,7 @@ pub fn read_state(s: &[u8], at: usize) -> ReadState
 
 // How many bytes a change takes.
 pub fn change_size(c: Change) -> usize
-    ensures { λ r. ⌜ (r ≡ length (changeBytes fixed (changeOf c))) × (r ≤ 16 + 12 * base .nodes) ⌝ }
+    ensures { λ r. ⌜ (r ≡ length (changeBytes fixed (changeOf c))) × (r ≤ 12 + 12 * base .nodes) ⌝ }
 {
     let kind = c.kind;
     let map = c.map;
@@ -281,7 +281,7 @@ fn write_schedule_change(buf: &mut [u8], at: usize, x: EncryptionSchedule) -> us
 
 // How many bytes a change state takes.
 pub fn state_size(x: ChangeState) -> usize
-    ensures { λ r. ⌜ (r ≡ length (stateBytes fixed (stateOf x))) × (r ≤ 20 + 12 * base .nodes) ⌝ }
+    ensures { λ r. ⌜ (r ≡ length (stateBytes fixed (stateOf x))) × (r ≤ 16 + 12 * base .nodes) ⌝ }
 {
     let progress = x.progress;
     let change = x.change;

@@ -1,9 +1,9 @@
 // Answers one line.
 ghost use Prim.Native.Nat.{_≤_};
 ghost use lib.ListN.{length};
+use crate::hex::Unhexed;
 use bincode::Step;
 use change::ChangeKind;
-use crate::hex::Unhexed;
 use honey_badger::EncryptionSchedule;
 use honey_badger::ReadSchedule;
 use internal_contrib::CheckBatch;

@@ -41,13 +41,3 @@ handles-true = eqList-true eqb eqb-true
 
 pub handles-refl : (xs : List ℕ) → sameHandles xs xs ≡ true
 handles-refl = eqList-refl eqb (λ x. eq-eqb x x refl)
-
--- what the answer that holds handles tells of the reading that it came from
-module _ (x : Read (List ℕ)) (r : ReadHandles) (e : r ≡ handlesAnswer x) where
-  pub handles-next : (c : ℕ) → r .step ≡ Next c → (xs : List ℕ) × (x ≡ value xs c) × (r .handles ≡ handlesHeld xs)
-  handles-next c p =
-      let u = step-next x c (sym (ap (λ (r : ReadHandles). r .step) e) ∙ p) in
-      (u .0, u .1, ap (λ (r : ReadHandles). r .handles) e ∙ ap (heldOf handlesHeld (handlesHeld [])) (u .1))
-
-  pub handles-refused : (n : ℕ) → r .step ≡ Refused n → x ≡ refuse n
-  handles-refused n p = step-refused x n (sym (ap (λ (r : ReadHandles). r .step) e) ∙ p)

@@ -1,7 +1,7 @@
 -- A vote, and a signed vote: as code holds them, as they are read and written.
 use Prim.Native.Nat.{ℕ, _^_, _<_}
 use mathlib.Core.List.{List, [], _∷_}
-use Rattle.bincode.specs.Read.{Read, value, refuse, bind}
+use Rattle.bincode.specs.Read.{Read, value, bind}
 use Rattle.bincode.specs.Numbers.{readNum, bytesOf, fixed}
 use Rattle.bincode.specs.Sizes.{Sizes}
 use Rattle.bincode.specs.Stands.{concat}

@@ -126,7 +126,7 @@ pub fn read_signed_vote(s: &[u8], at: usize) -> ReadSignedVote
 
 // How many bytes a vote takes.
 pub fn vote_size(v: Vote) -> usize
-    ensures { λ r. ⌜ (r ≡ length (voteBytes (voteOf v))) × (r ≤ 32 + 12 * base .nodes) ⌝ }
+    ensures { λ r. ⌜ (r ≡ length (voteBytes (voteOf v))) × (r ≤ 28 + 12 * base .nodes) ⌝ }
 {
     let change = v.change;
     change::change_size(change) + 16
@@ -147,7 +147,7 @@ pub fn write_vote(buf: &mut [u8], at: usize, v: Vote) -> usize
 }
 
 pub fn signed_vote_size(x: SignedVote) -> usize
-    ensures { λ r. ⌜ (r ≡ length (signedBytes (signedOf x))) × (r ≤ 44 + 12 * base .nodes) ⌝ }
+    ensures { λ r. ⌜ (r ≡ length (signedBytes (signedOf x))) × (r ≤ 40 + 12 * base .nodes) ⌝ }
 {
     let vote = x.vote;
     vote_size(vote) + 12

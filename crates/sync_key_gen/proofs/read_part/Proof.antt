@@ -13,7 +13,9 @@ use Rattle.bincode.proofs.NumberLaws.{read-refused}
 use Rattle.sync_key_gen.specs.declared.Handles.{Handles}
 use Rattle.sync_key_gen.specs.declared.ReadPart.{ReadPart}
 use Rattle.sync_key_gen.specs.SyncKeyGen.{handlesHeld, readHandles, readPart, partAnswer}
-use Rattle.sync_key_gen.proofs.KeyGenLaws.{handles-next, handles-refused}
+use Rattle.bincode.proofs.ReadLaws.{held-next, number-refused}
+use mathlib.Core.List.{[]}
+use Rattle.sync_key_gen.specs.declared.ReadHandles.{ReadHandles}
 use Rattle.sync_key_gen.proofs.read_part.Statement.{statement}
 use Rattle.sync_key_gen.proofs.read_part.Tie as tie
 
@@ -24,7 +26,9 @@ commit-read c = sym (c .before .before .read-u64 .ensures) ∙ ap said64 (c .com
 rows-read : (c : tie.After-step) → (xs : List ℕ)
     × (readHandles base (now (c .before .before .before .before .before .before .before .before .before .args .s)) (c .before .before .before .before .before .commit .given .0 .1 .0) ≡ value xs (c .step .given .0 .0))
     × (c .before .before .before .read-handles .result .handles ≡ handlesHeld xs)
-rows-read c = handles-next (readHandles base _ _) _ (c .before .before .before .read-handles .ensures) _ (c .step .given .1)
+rows-read c =
+    let e = c .before .before .before .read-handles .ensures in
+    held-next (readHandles base _ _) _ (ap (λ (r : ReadHandles). r .step) e) handlesHeld (handlesHeld []) _ (ap (λ (r : ReadHandles). r .handles) e) _ (c .step .given .1)
 
 read-u64-requires : tie.Need-read-u64-requires
 read-u64-requires c κs = search needs
@@ -60,10 +64,8 @@ refused-part-requires-2 c κs = search needs
 returns-2 : tie.Need-returns-2
 unfolding readPart
 returns-2 c =
-    let told = c .before .before .enum-told2 .given .1 in
-    let x = handles-refused (readHandles base (now (c .before .before .before .before .before .before .before .before .before .before .before .args .s)) (c .before .before .before .before .before .before .before .commit .given .0 .1 .0)) _ (c .before .before .before .before .before .read-handles .ensures) _ told in
-    let k = c .before .number .ensures ∙ ap (λ (s : Step). numberOf (saidStep s)) told in
-    rw (commit-read (c .before .before .before .before .before .before .before), x) (c .refused-part2 .ensures ∙ ap (λ (n : ℕ). partAnswer (refuse n)) k)
+    let x = number-refused (readHandles base (now (c .before .before .before .before .before .before .before .before .before .before .before .args .s)) (c .before .before .before .before .before .before .before .commit .given .0 .1 .0)) _ (ap (λ (r : ReadHandles). r .step) (c .before .before .before .before .before .read-handles .ensures)) _ _ (c .before .before .enum-told2 .given .1) (c .before .number .ensures) in
+    rw (commit-read (c .before .before .before .before .before .before .before), x) (c .refused-part2 .ensures)
 
 returns-3 : tie.Need-returns-3
 unfolding readPart

@@ -1,0 +1,43 @@
+-- 01, "Half-marathon examples": the marked ones (*), in their order. A later layer adds its own kind of row here.
+use Prim.Native.Nat.{ℕ}
+use mathlib.Core.Path.{_≡_}
+use mathlib.Core.List.{List, [], _∷_}
+use mathlib.Core.Bool.{Bool, true, false}
+use Rattle.bincode.specs.Outcome.{done}
+use Rattle.util.specs.MaxFaulty.{maxFaulty}
+use Rattle.honey_badger.specs.declared.EncryptionSchedule.{EncryptionSchedule}
+use Rattle.honey_badger.specs.declared.EncryptionSchedule.the-variants.{EveryNthEpoch, TickTock}
+use Rattle.honey_badger.specs.EncryptionSchedule.{useOnEpoch}
+use Rattle.change.specs.Change.{encryptionSchedule}
+use Rattle.votes.specs.Votes.{VoteOf, voteBytes}
+
+pub data Row : Type 0 where
+  -- f of a number of nodes
+  faulty : ℕ → ℕ → Row
+  -- a vote as bytes
+  encoded : VoteOf → List ℕ → Row
+  -- whether a schedule encrypts an epoch
+  encrypted : EncryptionSchedule → ℕ → Bool → Row
+
+-- what a row claims
+abbrev pub Holds : Row → Type 0
+Holds (faulty n f) = maxFaulty n ≡ f
+Holds (encoded v bytes) = voteBytes v ≡ bytes
+Holds (encrypted x epoch b) = useOnEpoch x epoch ≡ done b
+
+unfoldable pub rows : List Row
+rows =
+    -- f: n=1→0, 3→0, 4→1, 7→2, 16→5
+    faulty 1 0
+    ∷ faulty 3 0
+    ∷ faulty 4 1
+    ∷ faulty 7 2
+    ∷ faulty 16 5
+    -- the vote for EveryNthEpoch(3), era 5, number 0, as 28 bytes
+    ∷ encoded
+    (record { change = encryptionSchedule (EveryNthEpoch 3); era = 5; num = 0 })
+    (1 ∷ 0 ∷ 0 ∷ 0 ∷ 2 ∷ 0 ∷ 0 ∷ 0 ∷ 3 ∷ 0 ∷ 0 ∷ 0 ∷ 5 ∷ 0 ∷ 0 ∷ 0 ∷ 0 ∷ 0 ∷ 0 ∷ 0 ∷ 0 ∷ 0 ∷ 0 ∷ 0 ∷ 0 ∷ 0 ∷ 0 ∷ 0 ∷ [])
+    -- TickTock(2,3): epoch 2 yes, 3 no
+    ∷ encrypted (TickTock 2 3) 2 true
+    ∷ encrypted (TickTock 2 3) 3 false
+    ∷ []
