@@ -261,7 +261,7 @@ pub enum Walk {
 }
 
 // Reads a whole batch once.
-fn walk(s: &[u8], id: u32) -> Walk
+fn walk_batch(s: &[u8], id: u32) -> Walk
     ensures { λ r. ⌜ saidWalk r ≡ walked id (readBatch base (now (s .entry))) ⌝ }
 {
     if Budget::BYTES < s.len() {
@@ -304,7 +304,7 @@ pub enum CheckBatch {
 pub fn check_batch(s: &[u8]) -> CheckBatch
     ensures { λ r. ⌜ saidCheck r ≡ checked (readBatch base (now (s .entry))) ⌝ }
 {
-    match walk(s, 0) {
+    match walk_batch(s, 0) {
         Walk::Done(messages, _) => CheckBatch::Messages(messages),
         Walk::Refused(n) => CheckBatch::Refused(n),
     }
@@ -320,7 +320,7 @@ pub enum HasContrib {
 pub fn has_contrib(s: &[u8], id: u32) -> HasContrib
     ensures { λ r. ⌜ saidHas r ≡ contributed (readBatch base (now (s .entry))) id ⌝ }
 {
-    match walk(s, id) {
+    match walk_batch(s, id) {
         Walk::Done(_, place) => match place {
             UserPlace::At(_, _) => HasContrib::Yes,
             UserPlace::Nothing => HasContrib::No,
@@ -334,7 +334,7 @@ pub fn user_bytes(s: &[u8], id: u32) -> &[u8]
     ensures { λ r. ⌜ (now r ≡ userOf (readBatch base (now (s .entry))) id) × (r .ptr ≡ startOf (s .entry .ptr) (now (s .entry)) (readBatch base (now (s .entry))) id) ⌝ }
 {
     let n = s.len();
-    let Walk::Done(_, place) = walk(s, id) else {
+    let Walk::Done(_, place) = walk_batch(s, id) else {
         return &s[n..n];
     };
     let UserPlace::At(start, count) = place else {

@@ -52,11 +52,11 @@ refused-requires-2 c κs = search needs
 
 returns-2 : tie.Need-returns-2 Inv-loop μ-loop
 unfolding readMap
-returns-2 c = c .refused2 .ensures ∙ ap mapAnswer (sym (counted-over (readNode fixed _) following _ _ _ _ _ _ (count-read (c .before .before .before)) (c .before .if1 .taken)))
+returns-2 c = c .refused2 .ensures ∙ ap mapAnswer (sym (counted-over (readNode fixed _) following _ _ _ _ _ _ (count-read (c .before .before .before)) (omega arith)))
 
 loop-holds : tie.Need-loop-holds Inv-loop μ-loop
 unfolding readMap padded
-loop-holds c = ([], refl, omega arith, omega arith, refl, counted-start (readNode fixed _) following _ _ _ _ _ _ (count-read (c .before .before)) (c .if1 .left))
+loop-holds c = ([], refl, omega arith, omega arith, refl, counted-start (readNode fixed _) following _ _ _ _ _ _ (count-read (c .before .before)) (omega arith))
 
 read-node-requires : tie.Need-read-node-requires Inv-loop μ-loop
 read-node-requires c κs = search needs
