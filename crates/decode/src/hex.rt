@@ -8,7 +8,7 @@ pub enum Digit {
     Nothing,
 }
 
-fn digit(b: u8) -> Digit {
+fn digit_of(b: u8) -> Digit {
     if b < b'0' {
         return Digit::Nothing;
     }
@@ -40,10 +40,10 @@ pub(crate) fn unhex(s: &[u8], out: &mut [u8]) -> Unhexed {
     }
     let mut i: usize = 0;
     while i < n {
-        let Digit::Value(h) = digit(s[2 * i]) else {
+        let Digit::Value(h) = digit_of(s[2 * i]) else {
             return Unhexed::Bad;
         };
-        let Digit::Value(l) = digit(s[2 * i + 1]) else {
+        let Digit::Value(l) = digit_of(s[2 * i + 1]) else {
             return Unhexed::Bad;
         };
         out[i] = h % 16 * 16 + l % 16;

@@ -5,7 +5,7 @@ use mathlib.Core.Bool.{Bool, cond}
 use lib.ListN.{length}
 use lib.Seq.{sets}
 use lib.Dec.{ltb}
-use Rattle.bincode.specs.Read.{Read, value, refuse, bind}
+use Rattle.bincode.specs.Read.{Read, value, bind}
 use Rattle.bincode.specs.Outcome.{Outcome, done, refused}
 use Rattle.bincode.specs.Numbers.{Edition, fixed}
 use Rattle.bincode.specs.Sizes.{Sizes}

@@ -47,6 +47,13 @@ pub struct PubKeyMap {
 impl PubKeyMap {
     pub const LIMIT: usize = 16;
 
+    // The nodes of an array below a count.
+    pub fn new(count: usize, nodes: [Node; PubKeyMap::LIMIT]) -> Self
+        ensures { λ r. ⌜ r ≡ record { count = count; nodes = nodes } ⌝ }
+    {
+        PubKeyMap { count, nodes }
+    }
+
     pub fn empty() -> Self
         ensures { λ r. ⌜ r ≡ mapHeld [] ⌝ }
     {

@@ -19,6 +19,13 @@ pub struct Handles {
 impl Handles {
     pub const LIMIT: usize = 24;
 
+    // The handles of an array below a count.
+    pub fn new(count: usize, values: [u64; Handles::LIMIT]) -> Self
+        ensures { λ r. ⌜ r ≡ record { count = count; values = values } ⌝ }
+    {
+        Handles { count, values }
+    }
+
     pub fn empty() -> Self
         ensures { λ r. ⌜ r ≡ handlesHeld [] ⌝ }
     {

@@ -1,0 +1,2 @@
+pub mod ContentLaws
+pub mod ContentCodes
