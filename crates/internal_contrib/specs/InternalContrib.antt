@@ -1,11 +1,10 @@
 -- A contribution, and a batch: what is read, what is written, and the look-up of user bytes.
 use Prim.Native.Nat.{ℕ, _+_, _-_, _^_, _≤_, _<_}
 use mathlib.Core.List.{List, [], _∷_, _++_}
-use mathlib.Core.Bool.{Bool, true, false, cond}
+use mathlib.Core.Bool.{cond}
 use lib.ListN.{length, take, drop}
-use lib.Dec.{ltb, eqb}
+use lib.Dec.{ltb}
 use Rattle.bincode.specs.Read.{Read, value, refuse, bind, whole}
-use Rattle.bincode.specs.Outcome.{Outcome, done, refused}
 use Rattle.bincode.specs.Numbers.{readNum, bytesOf, fixed}
 use Rattle.bincode.specs.Sizes.{Sizes}
 use Rattle.bincode.specs.Items.{counted, plain, stay}

@@ -1,13 +1,8 @@
 use borrow.Author.Needs.{needs}
 use Prim.Native.Nat.{_≤_, _-_}
-use mathlib.Core.Path.{_≡_}
 use lib.ListN.{length}
 use Rattle.decode.proofs.hex.print.Statement.{statement}
 use Rattle.decode.proofs.hex.print.Tie as tie
-use Rattle.decode.proofs.hex.print.Reads as reads
-use Rattle.decode.proofs.hex.print.Lts as lts
-use Rattle.decode.proofs.hex.letter.Reads as letter-reads
-use Rattle.io.proofs.write_all.Reads as write-all-reads
 
 abbrev Inv-loop : tie.InvT-loop
 Inv-loop s i₀ i = i ≤ length s

@@ -4,9 +4,6 @@ use mathlib.Core.Path.{_≡_}
 use lib.ListN.{length}
 use Rattle.decode.proofs.hex.unhex.Statement.{statement}
 use Rattle.decode.proofs.hex.unhex.Tie as tie
-use Rattle.decode.proofs.hex.unhex.Reads as reads
-use Rattle.decode.proofs.hex.unhex.Lts as lts
-use Rattle.decode.proofs.hex.digit_of.Reads as digit-of-reads
 
 abbrev Inv-loop : tie.InvT-loop
 Inv-loop s out₀ n i₀ out i = (i ≤ n) × (length out ≡ length out₀)

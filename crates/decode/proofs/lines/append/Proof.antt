@@ -6,8 +6,6 @@ use mathlib.Core.Logic.{⊎-elim}
 use native.Mathlib.Omega.{arith}
 use Rattle.decode.proofs.lines.append.Statement.{statement}
 use Rattle.decode.proofs.lines.append.Tie as tie
-use Rattle.decode.proofs.lines.append.Reads as reads
-use Rattle.decode.proofs.lines.append.Lts as lts
 
 abbrev Inv-loop : tie.InvT-loop
 Inv-loop line₀ n part m₀ i₀ line m i = (i ≤ length part) × (m ≤ length line) × (length line ≡ length line₀)

@@ -4,11 +4,6 @@ use mathlib.Core.Path.{_≡_}
 use lib.ListN.{length}
 use Rattle.decode.proofs.lines.feed.Statement.{statement}
 use Rattle.decode.proofs.lines.feed.Tie as tie
-use Rattle.decode.proofs.lines.feed.Reads as reads
-use Rattle.decode.proofs.lines.feed.Lts as lts
-use Rattle.decode.proofs.lines.append.Reads as append-reads
-use Rattle.decode.proofs.lines.line_end.Reads as line-end-reads
-use Rattle.decode.proofs.show.answer.Reads as answer-reads
 
 abbrev Inv-loop : tie.InvT-loop
 Inv-loop line₀ n chunk m₀ at₀ line m at = (at ≤ length chunk) × (m ≤ length line) × (length line ≡ length line₀)

@@ -1,11 +1,8 @@
 use borrow.Author.Needs.{needs}
 use Prim.Native.Nat.{_≤_, _-_}
-use mathlib.Core.Path.{_≡_}
 use lib.ListN.{length}
 use Rattle.decode.proofs.lines.line_end.Statement.{statement}
 use Rattle.decode.proofs.lines.line_end.Tie as tie
-use Rattle.decode.proofs.lines.line_end.Reads as reads
-use Rattle.decode.proofs.lines.line_end.Lts as lts
 
 abbrev Inv-loop : tie.InvT-loop
 Inv-loop s from i₀ i = (from ≤ i) × (i ≤ length s)

@@ -4,9 +4,6 @@ use mathlib.Core.Path.{_≡_}
 use lib.ListN.{length}
 use Rattle.decode.proofs.lines.read_all.Statement.{statement}
 use Rattle.decode.proofs.lines.read_all.Tie as tie
-use Rattle.decode.proofs.lines.read_all.Reads as reads
-use Rattle.decode.proofs.lines.read_all.Lts as lts
-use Rattle.decode.proofs.lines.read_some.Reads as read-some-reads
 
 abbrev Inv-loop : tie.InvT-loop
 Inv-loop line₀ turns₀ held₀ line turns held = (held ≤ length line) × (length line ≡ length line₀)

@@ -1,0 +1,5 @@
+pub mod ContribCodes
+pub mod CountLaws
+pub mod ContribLaws
+pub mod BatchLaws
+pub mod WalkLaws
