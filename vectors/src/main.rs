@@ -558,6 +558,41 @@ fn batches(rng: &mut Rng, out: &mut Out) {
     out.damaged::<Batch>("batch", &with_u64(&with_u32(&p, 8, 6), 12, 4097), 3, "count over its size, cut");
 }
 
+/// A node's user bytes: the id in four bytes, then the batch.
+fn ask_user(out: &mut Out, id: u32, batch: &[u8], answer: &str) {
+    let mut bytes = id.to_le_bytes().to_vec();
+    bytes.extend_from_slice(batch);
+    out.line("user", &bytes, answer);
+}
+
+fn users(rng: &mut Rng, out: &mut Out) {
+    out.note("user bytes of one node: found, empty, absent, and in a batch that is refused behind them");
+    let mut b = Batch::new();
+    b.insert(0, InternalContrib { contrib: vec![1, 2, 3], ..rng.contrib() });
+    b.insert(7, InternalContrib { contrib: vec![], ..rng.contrib() });
+    b.insert(u32::MAX, InternalContrib { contrib: vec![9; 300], ..rng.contrib() });
+    let bytes = enc(&b);
+    for id in [0, 1, 7, 8, u32::MAX] {
+        let answer = match b.get(&id) {
+            Some(c) => format!("ok {}", hex(&c.contrib)),
+            None => "no".to_string(),
+        };
+        ask_user(out, id, &bytes, &answer);
+    }
+    ask_user(out, 0, &bytes[..bytes.len() - 1], "refused 2");
+    let mut more = bytes.clone();
+    more.push(0);
+    ask_user(out, 0, &more, "refused 2");
+    ask_user(out, 0, &enc(&Batch::new()), "no");
+    ask_user(out, 0, &vec![0; 65537], "refused 3");
+    for _ in 0..6 {
+        let b = rng.batch();
+        for (id, c) in b.iter().take(2) {
+            ask_user(out, *id, &enc(&b), &format!("ok {}", hex(&c.contrib)));
+        }
+    }
+}
+
 fn main() {
     let dir = std::env::args().nth(1).expect("the folder to write stdin and stdout into");
     let mut rng = Rng(0x9e37_79b9_7f4a_7c15);
@@ -571,8 +606,9 @@ fn main() {
     messages(&mut rng, &mut out);
     plans(&mut rng, &mut out);
     batches(&mut rng, &mut out);
+    users(&mut rng, &mut out);
     out.note("no values at all");
-    for bad in ["map 0", "map 0g", "map 0A", "map", "maps 00", "map 00 00", " map 00"] {
+    for bad in ["user 000000", "map 0", "map 0g", "map 0A", "map", "maps 00", "map 00 00", " map 00"] {
         writeln!(out.input, "{}", bad).unwrap();
         writeln!(out.answers, "bad line").unwrap();
     }

@@ -2,11 +2,13 @@
 ghost use Prim.Native.Nat.{_≤_};
 ghost use lib.ListN.{length};
 use crate::hex::Unhexed;
+use bincode::ReadU32;
 use bincode::Step;
 use change::ChangeKind;
 use honey_badger::EncryptionSchedule;
 use honey_badger::ReadSchedule;
 use internal_contrib::CheckBatch;
+use internal_contrib::HasContrib;
 use libc::STDOUT_FILENO;
 use params::ReadParams;
 use pub_key_map::PubKeyMap;
@@ -307,6 +309,30 @@ fn batch(b: &[u8]) {
     }
 }
 
+// A batch behind four bytes of an id: that node's user bytes, or that there are none.
+fn user(b: &[u8]) {
+    let ReadU32::Value(id, at) = bincode::read_u32(b, 0) else {
+        bad_line();
+        return;
+    };
+    if b.len() < at {
+        return;
+    }
+    let batch = &b[at..];
+    match internal_contrib::has_contrib(batch, id) {
+        HasContrib::Yes => {
+            io::write_all(STDOUT_FILENO, b"ok ");
+            crate::hex::print(internal_contrib::user_bytes(batch, id));
+            end_line();
+        }
+        HasContrib::No => {
+            io::write_all(STDOUT_FILENO, b"no");
+            end_line();
+        }
+        HasContrib::Refused(k) => refused(k),
+    }
+}
+
 // The kinds that stand in a vote, and the leaves.
 fn small(kind: &[u8], b: &[u8]) -> bool {
     if equal(kind, b"map") {
@@ -368,6 +394,10 @@ fn large(kind: &[u8], b: &[u8]) -> bool {
     }
     if equal(kind, b"batch") {
         batch(b);
+        return true;
+    }
+    if equal(kind, b"user") {
+        user(b);
         return true;
     }
     false

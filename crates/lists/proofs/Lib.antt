@@ -1,1 +1,3 @@
 pub mod ListLaws
+pub mod SortedLaws
+pub mod MarkedLaws

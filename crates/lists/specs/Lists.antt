@@ -1,8 +1,9 @@
--- Lists that code holds as an array with a count, and equality of lists.
-use Prim.Native.Nat.{ℕ, _-_}
+-- Lists that code holds as an array with a count; equality; what is found by a key, and lists that are sorted by one.
+use Prim.Native.Nat.{ℕ, suc, _-_}
 use mathlib.Core.List.{List, [], _∷_, _++_}
-use mathlib.Core.Bool.{Bool, true, false, _&&_}
+use mathlib.Core.Bool.{Bool, true, false, cond, _&&_}
 use lib.ListN.{length, replicate}
+use lib.Dec.{ltb, leb, eqb}
 
 module _ {A : Type 0} where
   -- a list as an array of n places holds it: the places behind it are empty
@@ -16,3 +17,50 @@ module _ {A : Type 0} where
     eqList [] (y ∷ ys) = false
     eqList (x ∷ xs) [] = false
     eqList (x ∷ xs) (y ∷ ys) = eq x y && eqList xs ys
+
+-- what is found, or nothing
+pub data Found (A : Type 0) : Type 0 where
+  found : A → Found A
+  nothing : Found A
+
+module _ {A B : Type 0} (f : A → B) where
+  abbrev pub mapFound : Found A → Found B
+  mapFound (found a) = found (f a)
+  mapFound nothing = nothing
+
+module _ {A : Type 0} (key : A → ℕ) where
+  -- the first element with the key
+  unfoldable pub lookup : List A → ℕ → Found A
+  lookup [] k = nothing
+  lookup (x ∷ xs) k = cond (eqb (key x) k) (found x) (lookup xs k)
+
+  -- how many elements stand before the first whose key is not below k
+  unfoldable pub below : ℕ → List A → ℕ
+  below k [] = 0
+  below k (x ∷ xs) = cond (ltb (key x) k) (suc (below k xs)) 0
+
+  -- an element put into a list that is sorted by key: in place of the one with its key, or before the first with a greater one
+  unfoldable pub insert : A → List A → List A
+  insert a [] = a ∷ []
+  insert a (x ∷ xs) = cond (ltb (key x) (key a)) (x ∷ insert a xs) (cond (eqb (key x) (key a)) (a ∷ xs) (a ∷ x ∷ xs))
+
+  -- whether an element has the key, where the list is sorted
+  unfoldable pub hasKey : ℕ → List A → Bool
+  hasKey k [] = false
+  hasKey k (x ∷ xs) = cond (ltb (key x) k) (hasKey k xs) (eqb (key x) k)
+
+  -- the same where the list has room for a limit only: a new key has no place in a full one
+  unfoldable pub insertWithin : ℕ → A → List A → List A
+  insertWithin limit a xs = cond (hasKey (key a) xs) (insert a xs) (cond (ltb (length xs) limit) (insert a xs) xs)
+
+-- what the marked elements of an array stand for, each with its place, from place i on
+module _ {A B : Type 0} (mark : A → Bool) (view : ℕ → A → B) where
+  unfoldable pub marked : ℕ → List A → List B
+  marked i [] = []
+  marked i (x ∷ xs) = cond (mark x) (view i x ∷ marked (suc i) xs) (marked (suc i) xs)
+
+-- those of which a test holds
+module _ {A : Type 0} (p : A → Bool) where
+  unfoldable pub filter : List A → List A
+  filter [] = []
+  filter (x ∷ xs) = cond (p x) (x ∷ filter xs) (filter xs)

@@ -12,7 +12,8 @@ use borrow.Author.Tests.{eq-eqb, ne-eqb}
 use Rattle.lists.proofs.ListLaws.{rest-none}
 use Rattle.pub_key_map.specs.declared.Node.{Node}
 use Rattle.pub_key_map.specs.PubKeyMap.{noNode}
-use Rattle.network_info.specs.NetworkInfo.{Found, found, nothing, indexFrom, keyOf, isMember}
+use Rattle.lists.specs.Lists.{Found, found, nothing}
+use Rattle.network_info.specs.NetworkInfo.{indexFrom, keyOf, isMember}
 
 -- turns of the search
 module _ (ns : List Node) (i id : ℕ) where

@@ -3,21 +3,12 @@ use Prim.Native.Nat.{ℕ, _+_}
 use mathlib.Core.List.{List, [], _∷_}
 use mathlib.Core.Bool.{Bool, true, false, cond}
 use lib.Dec.{eqb}
+use Rattle.lists.specs.Lists.{Found, found, nothing}
 use Rattle.pub_key_map.specs.declared.Node.{Node}
 use Rattle.network_info.specs.declared.NodeIndex.{NodeIndex}
 use Rattle.network_info.specs.declared.NodeIndex.the-variants as index
 use Rattle.network_info.specs.declared.NodeKey.{NodeKey}
 use Rattle.network_info.specs.declared.NodeKey.the-variants as key
-
--- what is found, or nothing
-pub data Found (A : Type 0) : Type 0 where
-  found : A → Found A
-  nothing : Found A
-
-module _ {A B : Type 0} (f : A → B) where
-  abbrev pub mapFound : Found A → Found B
-  mapFound (found a) = found (f a)
-  mapFound nothing = nothing
 
 -- the place of the first node with the id, counted from i
 unfoldable pub indexFrom : ℕ → List Node → ℕ → Found ℕ

@@ -5,7 +5,8 @@ use native.Mathlib.Omega.{arith}
 use lib.ListN.{length, getD, length-map}
 use Rattle.bincode.specs.Sizes.{base}
 use Rattle.pub_key_map.specs.PubKeyMap.{nodesOf, noNode}
-use Rattle.network_info.specs.NetworkInfo.{found, keyOf, saidIndex}
+use Rattle.lists.specs.Lists.{found}
+use Rattle.network_info.specs.NetworkInfo.{keyOf, saidIndex}
 use Rattle.network_info.proofs.IndexLaws.{index-within, index-nothing}
 use Rattle.network_info.proofs.node_key.Statement.{statement}
 use Rattle.network_info.proofs.node_key.Tie as tie
