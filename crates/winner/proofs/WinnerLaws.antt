@@ -1,0 +1,71 @@
+-- A winner has more than f supporters, and none wins exactly if no choice passes f.
+-- Assumes nothing.
+use Prim.Native.Nat.{ℕ, zero, suc, _+_, _≤_, _<_}
+use mathlib.Core.Path.{_≡_, refl, sym, ap, _∙_, subst}
+use mathlib.Core.List.{List, [], _∷_, _++_, append-assoc, append-nil}
+use mathlib.Core.Bool.{Bool, true, false, cond}
+use mathlib.Core.Logic.{_↔_}
+use native.Mathlib.Omega.{arith}
+use lib.Dec.{ltb}
+use borrow.Author.Tests.{ltb-true, ltb-false}
+use Rattle.lists.specs.Lists.{Found, found, nothing}
+use Rattle.winner.specs.Winner.{support, winnerAfter, winner}
+
+module _ {A : Type 0} (eq : A → A → Bool) where
+  pub support-append : (x : A) (xs ys : List A) → support eq x (xs ++ ys) ≡ support eq x xs + support eq x ys
+  unfolding support
+  support-append x [] ys = omega arith
+  support-append x (y ∷ xs) ys = rw (support-append x xs ys) (omega arith)
+
+  after-supported : (f : ℕ) (seen xs : List A) (x : A) → winnerAfter eq f seen xs ≡ found x → f < support eq x (seen ++ xs)
+  unfolding winnerAfter
+  after-supported f seen [] x e = absurd (let z : _≡_ {A = ℕ} 0 1 = cc in let y : ⊥ = omega arith in y)
+  after-supported f seen (y ∷ xs) x e = go (ltb f (support eq y (seen ++ (y ∷ [])))) refl e (after-supported f (seen ++ (y ∷ [])) xs x)
+    where
+      whole : seen ++ (y ∷ xs) ≡ seen ++ (y ∷ []) ++ xs
+      whole = sym (append-assoc seen (y ∷ []) xs)
+
+      go : (b : Bool) → ltb f (support eq y (seen ++ (y ∷ []))) ≡ b → cond b (found y) (winnerAfter eq f (seen ++ (y ∷ [])) xs) ≡ found x
+          → (winnerAfter eq f (seen ++ (y ∷ [])) xs ≡ found x → f < support eq x (seen ++ (y ∷ []) ++ xs)) → f < support eq x (seen ++ (y ∷ xs))
+      go true t e ih =
+          let l = ltb-true f (support eq y (seen ++ (y ∷ []))) t in
+          let q : y ≡ x = cc in
+          subst (λ (z : A). f < support eq z (seen ++ (y ∷ xs))) q (rw (whole, support-append y (seen ++ (y ∷ [])) xs) (omega arith))
+      go false t e ih = rw whole (ih e)
+
+  -- its supporters are more than f
+  pub winner-supported : (f : ℕ) (xs : List A) (x : A) → winner eq f xs ≡ found x → f < support eq x xs
+  unfolding winner
+  winner-supported f xs x e = after-supported f [] xs x e
+
+  -- where equality is equality, none wins exactly if no choice passes f
+  module _ (eq-true : (x y : A) → eq x y ≡ true → x ≡ y) where
+    after-none : (f : ℕ) (seen xs : List A) → ((x : A) → support eq x seen ≤ f) → winnerAfter eq f seen xs ≡ nothing → (x : A) → support eq x (seen ++ xs) ≤ f
+    unfolding winnerAfter support
+    after-none f seen [] h e x = rw (append-nil seen) (h x)
+    after-none f seen (y ∷ xs) h e x = go (ltb f (support eq y (seen ++ (y ∷ [])))) refl e (after-none f (seen ++ (y ∷ [])) xs)
+      where
+        one : (z : A) → support eq y (seen ++ (y ∷ [])) ≤ f → support eq z (seen ++ (y ∷ [])) ≤ f
+        one z l = pick (eq y z) refl
+          where
+            pick : (b : Bool) → eq y z ≡ b → support eq z (seen ++ (y ∷ [])) ≤ f
+            pick true t = subst (λ (w : A). support eq w (seen ++ (y ∷ [])) ≤ f) (eq-true y z t) l
+            pick false t = let k = h z in rw (support-append z seen (y ∷ []), t) (omega arith)
+
+        go : (b : Bool) → ltb f (support eq y (seen ++ (y ∷ []))) ≡ b → cond b (found y) (winnerAfter eq f (seen ++ (y ∷ [])) xs) ≡ nothing
+            → (((z : A) → support eq z (seen ++ (y ∷ [])) ≤ f) → winnerAfter eq f (seen ++ (y ∷ [])) xs ≡ nothing → (z : A) → support eq z (seen ++ (y ∷ []) ++ xs) ≤ f)
+            → support eq x (seen ++ (y ∷ xs)) ≤ f
+        go true t e ih = absurd (let z : _≡_ {A = ℕ} 0 1 = cc in let w : ⊥ = omega arith in w)
+        go false t e ih =
+            rw (sym (append-assoc seen (y ∷ []) xs)) (ih (λ z. one z (ltb-false f (support eq y (seen ++ (y ∷ []))) t)) e x)
+
+    pub winner-none : (f : ℕ) (xs : List A) → (winner eq f xs ≡ nothing) ↔ ((x : A) → support eq x xs ≤ f)
+    unfolding winner support
+    winner-none f xs = (λ e x. after-none f [] xs (λ z. start z) e x, λ h. case (winnerAfter eq f [] xs) refl h)
+      where
+        start : (z : A) → support eq z [] ≤ f
+        start z = omega arith
+
+        case : (r : Found A) → winnerAfter eq f [] xs ≡ r → ((x : A) → support eq x xs ≤ f) → r ≡ nothing
+        case (found x) e h = absurd (let l = after-supported f [] xs x e in let k = h x in let w : ⊥ = omega arith in w)
+        case nothing e h = refl
