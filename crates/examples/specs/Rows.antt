@@ -3,17 +3,21 @@ use Prim.Native.Nat.{ℕ}
 use mathlib.Core.Path.{_≡_}
 use mathlib.Core.List.{List, [], _∷_}
 use mathlib.Core.Bool.{Bool, true, false}
+use Rattle.lists.specs.Lists.{Found, found, nothing}
+use Rattle.winner.specs.Winner.{winner}
 use Rattle.bincode.specs.Outcome.{done}
 use Rattle.util.specs.MaxFaulty.{maxFaulty}
 use Rattle.honey_badger.specs.declared.EncryptionSchedule.{EncryptionSchedule}
-use Rattle.honey_badger.specs.declared.EncryptionSchedule.the-variants.{EveryNthEpoch, TickTock}
+use Rattle.honey_badger.specs.declared.EncryptionSchedule.the-variants.{Always, EveryNthEpoch, TickTock}
 use Rattle.honey_badger.specs.EncryptionSchedule.{useOnEpoch}
-use Rattle.change.specs.Change.{encryptionSchedule}
+use Rattle.change.specs.Change.{ChangeOf, nodeChange, encryptionSchedule, sameChange}
 use Rattle.votes.specs.Votes.{VoteOf, voteBytes}
 
 pub data Row : Type 0 where
   -- f of a number of nodes
   faulty : ℕ → ℕ → Row
+  -- who wins among n nodes, from the choices of the voters by ascending id
+  won : ℕ → List ChangeOf → Found ChangeOf → Row
   -- a vote as bytes
   encoded : VoteOf → List ℕ → Row
   -- whether a schedule encrypts an epoch
@@ -22,8 +26,16 @@ pub data Row : Type 0 where
 -- what a row claims
 abbrev pub Holds : Row → Type 0
 Holds (faulty n f) = maxFaulty n ≡ f
+Holds (won n choices r) = winner sameChange (maxFaulty n) choices ≡ r
 Holds (encoded v bytes) = voteBytes v ≡ bytes
 Holds (encrypted x epoch b) = useOnEpoch x epoch ≡ done b
+
+-- two changes that differ
+abbrev pub X : ChangeOf
+X = encryptionSchedule Always
+
+abbrev pub Y : ChangeOf
+Y = nodeChange (record { id = 1; key = 11 } ∷ [])
 
 unfoldable pub rows : List Row
 rows =
@@ -33,6 +45,9 @@ rows =
     ∷ faulty 4 1
     ∷ faulty 7 2
     ∷ faulty 16 5
+    -- n=4, voters 1:X, 2:Y, 3:Y, 4:X: Y wins; 1:X, 2:Y: none
+    ∷ won 4 (X ∷ Y ∷ Y ∷ X ∷ []) (found Y)
+    ∷ won 4 (X ∷ Y ∷ []) nothing
     -- the vote for EveryNthEpoch(3), era 5, number 0, as 28 bytes
     ∷ encoded
     (record { change = encryptionSchedule (EveryNthEpoch 3); era = 5; num = 0 })
