@@ -1,0 +1,3 @@
+pub mod PendingTurns
+pub mod WinnerTurns
+pub mod CounterLaws

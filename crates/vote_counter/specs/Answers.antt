@@ -1,0 +1,56 @@
+-- What the counter's answers say.
+use Prim.Native.Nat.{ℕ, zero, suc}
+use mathlib.Core.List.{List, [], _∷_}
+use mathlib.Core.Bool.{Bool, true, false}
+use lib.ListN.{getD}
+use Rattle.lists.specs.Lists.{Found, found, nothing}
+use Rattle.bincode.specs.Outcome.{Outcome, done, refused}
+use Rattle.change.specs.Change.{ChangeOf}
+use Rattle.votes.specs.declared.SignedVote.{SignedVote}
+use Rattle.votes.specs.Votes.{SignedVoteOf, signedOf, noSigned}
+use Rattle.vote_counter.specs.VoteCounter.{VoteEffect, stored, nothing-new, fault, Added, Signed, counterOf}
+use Rattle.vote_counter.specs.declared.VoteOutcome.{VoteOutcome}
+use Rattle.vote_counter.specs.declared.VoteOutcome.the-variants as vote
+use Rattle.vote_counter.specs.declared.VoteAdded.{VoteAdded}
+use Rattle.vote_counter.specs.declared.SignOutcome.{SignOutcome}
+use Rattle.vote_counter.specs.declared.SignOutcome.the-variants as sign
+use Rattle.vote_counter.specs.declared.VoteSigned.{VoteSigned}
+use Rattle.vote_counter.specs.declared.PendingVote.{PendingVote}
+use Rattle.vote_counter.specs.declared.Winner.{Winner}
+use Rattle.vote_counter.specs.declared.Winner.the-variants as won
+
+abbrev pub saidOutcome : VoteOutcome → VoteEffect
+saidOutcome vote.Stored = stored
+saidOutcome vote.Nothing = nothing-new
+saidOutcome (vote.Faulty k) = fault k
+
+abbrev pub addedOf : VoteAdded → Added
+addedOf r = record { counter = counterOf (r .counter); effect = saidOutcome (r .outcome) }
+
+abbrev pub saidSign : SignOutcome → SignedVote → Outcome SignedVoteOf
+saidSign sign.Signed v = done (signedOf v)
+saidSign (sign.Refused n) v = refused n
+
+abbrev pub signedAnswer : VoteSigned → Signed
+signedAnswer r = record { counter = counterOf (r .counter); answer = saidSign (r .outcome) (r .vote) }
+
+-- votes are handed out by place, 0 first, none past the last
+unfoldable pub pendingAt : ℕ → List SignedVoteOf → Found SignedVoteOf
+pendingAt n [] = nothing
+pendingAt zero (v ∷ vs) = found v
+pendingAt (suc n) (v ∷ vs) = pendingAt n vs
+
+abbrev pub saidFound : Bool → SignedVote → Found SignedVoteOf
+saidFound true v = found (signedOf v)
+saidFound false v = nothing
+
+abbrev pub saidPending : PendingVote → Found SignedVoteOf
+saidPending r = saidFound (r .found) (r .vote)
+
+-- the change that the vote at a place is for
+abbrev pub choiceAt : List SignedVoteOf → ℕ → ChangeOf
+choiceAt vs i = getD vs i noSigned .vote .change
+
+abbrev pub saidWinner : Winner → Found ℕ
+saidWinner (won.Voter i) = found i
+saidWinner won.Nobody = nothing

@@ -1,0 +1,2 @@
+pub mod VoteCounter
+pub mod Answers

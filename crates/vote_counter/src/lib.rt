@@ -1,0 +1,289 @@
+// votes.rs: the counter of pending and committed votes of one era.
+ghost use mathlib.Core.Path.{_≡_};
+ghost use Prim.Native.Nat.{_<_};
+ghost use lib.ListN.{length};
+ghost use Rattle.lists.specs.Lists.{mapFound};
+ghost use Rattle.bincode.specs.Sizes.{base};
+ghost use Rattle.bincode.specs.Outcome.{done};
+ghost use Rattle.pub_key_map.specs.PubKeyMap.{nodesOf};
+ghost use Rattle.change.specs.Change.{changeOf, sameChange};
+ghost use Rattle.votes.specs.Votes.{signedOf};
+ghost use Rattle.signed_votes.specs.SignedVotes.{votesOf};
+ghost use Rattle.vote_counter.specs.VoteCounter.{newCounter, counterOf, obsolete, validVote, addPending, addCommitted, signedWith, signVoteFor, pendingVotes, computeWinner};
+ghost use Rattle.vote_counter.specs.Answers.{addedOf, signedAnswer, pendingAt, saidPending, choiceAt, saidWinner};
+use change::Change;
+use fault_log::FaultKind;
+use network_info::NodeKey;
+use pub_key_map::PubKeyMap;
+use signed_votes::SignedVotes;
+use signed_votes::VoteNum;
+use votes::SignedVote;
+use votes::Vote;
+
+pub struct VoteCounter {
+    pub our_id: u32,
+    pub secret_key: u64,
+    pub pub_keys: PubKeyMap,
+    pub era: u64,
+    pub pending: SignedVotes,
+    pub committed: SignedVotes,
+}
+
+// What a vote did: it was stored, it changed nothing, or it is a fault.
+pub enum VoteOutcome {
+    Stored,
+    Nothing,
+    Faulty(FaultKind),
+}
+
+pub struct VoteAdded {
+    pub counter: VoteCounter,
+    pub outcome: VoteOutcome,
+}
+
+// Whether an own vote was signed, or row 11.
+pub enum SignOutcome {
+    Signed,
+    Refused(u8),
+}
+
+// The vote stands beside the outcome; it is empty where signing was refused.
+pub struct VoteSigned {
+    pub counter: VoteCounter,
+    pub outcome: SignOutcome,
+    pub vote: SignedVote,
+}
+
+// A pending vote that is handed out, or that there is none at the place; the vote beside it is then empty.
+pub struct PendingVote {
+    pub found: bool,
+    pub vote: SignedVote,
+}
+
+// The place of the winning voter among the committed votes.
+pub enum Winner {
+    Voter(usize),
+    Nobody,
+}
+
+// Whether a vote is numbered at or below its voter's stored one.
+fn is_obsolete(votes: SignedVotes, x: SignedVote) -> bool
+    ensures { λ r. ⌜ r ≡ obsolete (votesOf votes) (signedOf x) ⌝ }
+{
+    let vote = x.vote;
+    let VoteNum::Num(old) = votes.num_of(x.voter) else {
+        return false;
+    };
+    if vote.num <= old {
+        return true;
+    }
+    false
+}
+
+// The change of the vote at a place.
+fn change_of(votes: SignedVotes, i: usize) -> Change
+    requires { ⌜ i < length (votesOf votes) ⌝ }
+    ensures { λ r. ⌜ changeOf r ≡ choiceAt (votesOf votes) i ⌝ }
+{
+    let x = votes.votes[i];
+    let vote = x.vote;
+    vote.change
+}
+
+// Whether the vote at a place is for a change.
+fn agrees(votes: SignedVotes, j: usize, change: Change) -> bool
+    requires { ⌜ j < length (votesOf votes) ⌝ }
+    ensures { λ r. ⌜ r ≡ sameChange (choiceAt (votesOf votes) j) (changeOf change) ⌝ }
+{
+    let other = change_of(votes, j);
+    other.same(change)
+}
+
+impl VoteCounter {
+    pub fn new(our_id: u32, secret_key: u64, pub_keys: PubKeyMap, era: u64) -> Self
+        ensures { λ r. ⌜ counterOf r ≡ newCounter «our_id» «secret_key» (nodesOf «pub_keys») era ⌝ }
+    {
+        VoteCounter {
+            our_id,
+            secret_key,
+            pub_keys,
+            era,
+            pending: SignedVotes::empty(),
+            committed: SignedVotes::empty(),
+        }
+    }
+
+    // Whether a vote is signed under its voter's key of the current map.
+    fn is_valid(self, x: SignedVote) -> bool
+        ensures { λ r. ⌜ r ≡ validVote (counterOf self) (signedOf x) ⌝ }
+    {
+        let map = self.pub_keys;
+        let NodeKey::Key(key) = network_info::node_key(map, x.voter) else {
+            return false;
+        };
+        if key == x.sig {
+            return true;
+        }
+        false
+    }
+
+    // A vote that was received.
+    pub fn add_pending_vote(mut self, x: SignedVote) -> VoteAdded
+        ensures { λ r. ⌜ addedOf r ≡ addPending base (counterOf self) (signedOf x) ⌝ }
+    {
+        let vote = x.vote;
+        if vote.era != self.era {
+            return VoteAdded {
+                counter: self,
+                outcome: VoteOutcome::Nothing,
+            };
+        }
+        let pending = self.pending;
+        if is_obsolete(pending, x) {
+            return VoteAdded {
+                counter: self,
+                outcome: VoteOutcome::Nothing,
+            };
+        }
+        if self.is_valid(x) {
+            let next = pending.put(x);
+            self.pending = next;
+            return VoteAdded {
+                counter: self,
+                outcome: VoteOutcome::Stored,
+            };
+        }
+        VoteAdded {
+            counter: self,
+            outcome: VoteOutcome::Faulty(FaultKind::InvalidVoteSignature),
+        }
+    }
+
+    // A vote of a batch: number, then era, then signature.
+    pub fn add_committed_vote(mut self, x: SignedVote) -> VoteAdded
+        ensures { λ r. ⌜ addedOf r ≡ addCommitted base (counterOf self) (signedOf x) ⌝ }
+    {
+        let vote = x.vote;
+        let committed = self.committed;
+        if is_obsolete(committed, x) {
+            return VoteAdded {
+                counter: self,
+                outcome: VoteOutcome::Nothing,
+            };
+        }
+        if vote.era == self.era {
+            if self.is_valid(x) {
+                let next = committed.put(x);
+                self.committed = next;
+                return VoteAdded {
+                    counter: self,
+                    outcome: VoteOutcome::Stored,
+                };
+            }
+        }
+        VoteAdded {
+            counter: self,
+            outcome: VoteOutcome::Faulty(FaultKind::InvalidCommittedVote),
+        }
+    }
+
+    // The own vote with a number, signed and pending.
+    fn sign_with(mut self, change: Change, num: u64) -> VoteSigned
+        ensures { λ r. ⌜ signedAnswer r ≡ signedWith base (counterOf self) (changeOf change) (done num) ⌝ }
+    {
+        let x = SignedVote {
+            vote: Vote {
+                change,
+                era: self.era,
+                num,
+            },
+            voter: self.our_id,
+            sig: self.secret_key,
+        };
+        let pending = self.pending;
+        let next = pending.put(x);
+        self.pending = next;
+        VoteSigned {
+            counter: self,
+            outcome: SignOutcome::Signed,
+            vote: x,
+        }
+    }
+
+    // An own vote; row 11 where the own pending vote's number is the last.
+    pub fn sign_vote_for(self, change: Change) -> VoteSigned
+        ensures { λ r. ⌜ signedAnswer r ≡ signVoteFor base (counterOf self) (changeOf change) ⌝ }
+    {
+        let pending = self.pending;
+        let VoteNum::Num(num) = pending.num_of(self.our_id) else {
+            return self.sign_with(change, 0);
+        };
+        if num == 18446744073709551615 {
+            return VoteSigned {
+                counter: self,
+                outcome: SignOutcome::Refused(11),
+                vote: SignedVote::empty(),
+            };
+        }
+        self.sign_with(change, num + 1)
+    }
+
+    // The pending vote at a place, 0 first, of those newer than their voter's committed vote.
+    pub fn pending_vote(self, place: usize) -> PendingVote
+        ensures { λ r. ⌜ saidPending r ≡ pendingAt place (pendingVotes (counterOf self)) ⌝ }
+    {
+        let pending = self.pending;
+        let committed = self.committed;
+        let n = pending.len();
+        let mut left = place;
+        let mut i: usize = 0;
+        while i < n {
+            let x = pending.votes[i];
+            if is_obsolete(committed, x) {
+                i += 1;
+            } else {
+                if left == 0 {
+                    return PendingVote {
+                        found: true,
+                        vote: x,
+                    };
+                }
+                left -= 1;
+                i += 1;
+            }
+        }
+        PendingVote {
+            found: false,
+            vote: SignedVote::empty(),
+        }
+    }
+
+    // The first voter, by ascending id, whose change more than f voters up to there have chosen.
+    pub fn compute_winner(self) -> Winner
+        ensures { λ r. ⌜ mapFound (choiceAt (votesOf (self .committed))) (saidWinner r) ≡ computeWinner (counterOf self) ⌝ }
+    {
+        let map = self.pub_keys;
+        let f = network_info::num_faulty(map);
+        let committed = self.committed;
+        let n = committed.len();
+        let mut won = Winner::Nobody;
+        let mut i: usize = 0;
+        'voters: while i < n {
+            let change = change_of(committed, i);
+            let mut count: usize = 0;
+            let mut j: usize = 0;
+            while j <= i {
+                if agrees(committed, j, change) {
+                    count += 1;
+                    if f < count {
+                        won = Winner::Voter(i);
+                        break 'voters;
+                    }
+                }
+                j += 1;
+            }
+            i += 1;
+        }
+        won
+    }
+}
