@@ -1,7 +1,8 @@
 -- Every row of the table holds of the definitions.
 -- Assumes nothing.
 use mathlib.Core.Path.{refl}
-use Rattle.lists.specs.Lists.{eqList}
+use Rattle.lists.specs.Lists.{eqList, filter}
+use Rattle.key_gen.specs.KeyGen.{complete, countComplete, enough, ready}
 use Rattle.winner.specs.Winner.{support, winnerAfter, winner}
 use Rattle.pub_key_map.specs.PubKeyMap.{sameNode}
 use Rattle.bincode.specs.Numbers.{bytesOf}
@@ -13,5 +14,5 @@ use Rattle.votes.specs.Votes.{voteBytes}
 use Rattle.examples.specs.Rows.{Holds, rows}
 
 pub examples : All Holds rows
-unfolding rows maxFaulty winner winnerAfter support sameChange eqList sameNode sameFields bytesOf scheduleBytes changeBytes voteBytes row14 encrypts useOnEpoch
-examples = (refl, (refl, (refl, (refl, (refl, (refl, (refl, (refl, (refl, (refl, tt))))))))))
+unfolding rows maxFaulty filter complete countComplete enough ready winner winnerAfter support sameChange eqList sameNode sameFields bytesOf scheduleBytes changeBytes voteBytes row14 encrypts useOnEpoch
+examples = (refl, (refl, (refl, (refl, (refl, (refl, (refl, (refl, (refl, (refl, (refl, (refl, (refl, (refl, (refl, (refl, tt))))))))))))))))

@@ -1,5 +1,5 @@
 -- 01, "Half-marathon examples": the marked ones (*), in their order. A later layer adds its own kind of row here.
-use Prim.Native.Nat.{ℕ}
+use Prim.Native.Nat.{ℕ, zero, suc}
 use mathlib.Core.Path.{_≡_}
 use mathlib.Core.List.{List, [], _∷_}
 use mathlib.Core.Bool.{Bool, true, false}
@@ -11,6 +11,8 @@ use Rattle.honey_badger.specs.declared.EncryptionSchedule.{EncryptionSchedule}
 use Rattle.honey_badger.specs.declared.EncryptionSchedule.the-variants.{Always, EveryNthEpoch, TickTock}
 use Rattle.honey_badger.specs.EncryptionSchedule.{useOnEpoch}
 use Rattle.change.specs.Change.{ChangeOf, nodeChange, encryptionSchedule, sameChange}
+use Rattle.pub_key_map.specs.declared.Node.{Node}
+use Rattle.key_gen.specs.KeyGen.{ProposalOf, complete, ready}
 use Rattle.votes.specs.Votes.{VoteOf, voteBytes}
 
 pub data Row : Type 0 where
@@ -18,15 +20,38 @@ pub data Row : Type 0 where
   faulty : ℕ → ℕ → Row
   -- who wins among n nodes, from the choices of the voters by ascending id
   won : ℕ → List ChangeOf → Found ChangeOf → Row
+  -- whether a part is complete, among n nodes, with so many acks
+  completed : ℕ → ℕ → Bool → Row
+  -- whether key generation is ready, among n nodes, with so many complete parts
+  finished : ℕ → ℕ → Bool → Row
   -- a vote as bytes
   encoded : VoteOf → List ℕ → Row
   -- whether a schedule encrypts an epoch
   encrypted : EncryptionSchedule → ℕ → Bool → Row
 
+-- n nodes, and the indices below n
+abbrev pub nodesUpto : ℕ → List Node
+nodesUpto zero = []
+nodesUpto (suc n) = record { id = n; key = 1 } ∷ nodesUpto n
+
+abbrev pub below : ℕ → List ℕ
+below zero = []
+below (suc n) = n ∷ below n
+
+-- a part with so many acks, and so many parts that all n nodes have acknowledged
+abbrev pub partWith : ℕ → ProposalOf
+partWith acks = record { proposer = 0; commit = 0; acks = below acks; good = [] }
+
+abbrev pub parts : ℕ → ℕ → List ProposalOf
+parts n zero = []
+parts n (suc c) = partWith n ∷ parts n c
+
 -- what a row claims
 abbrev pub Holds : Row → Type 0
 Holds (faulty n f) = maxFaulty n ≡ f
 Holds (won n choices r) = winner sameChange (maxFaulty n) choices ≡ r
+Holds (completed n acks b) = complete (maxFaulty n) (partWith acks) ≡ b
+Holds (finished n c b) = ready (record { our-id = 0; nodes = nodesUpto n; parts = parts n c }) ≡ b
 Holds (encoded v bytes) = voteBytes v ≡ bytes
 Holds (encrypted x epoch b) = useOnEpoch x epoch ≡ done b
 
@@ -48,6 +73,13 @@ rows =
     -- n=4, voters 1:X, 2:Y, 3:Y, 4:X: Y wins; 1:X, 2:Y: none
     ∷ won 4 (X ∷ Y ∷ Y ∷ X ∷ []) (found Y)
     ∷ won 4 (X ∷ Y ∷ []) nothing
+    -- n=4: 2 acks incomplete, 3 complete; 2 complete parts not ready, 3 ready; n=7: 4 not ready, 5 ready
+    ∷ completed 4 2 false
+    ∷ completed 4 3 true
+    ∷ finished 4 2 false
+    ∷ finished 4 3 true
+    ∷ finished 7 4 false
+    ∷ finished 7 5 true
     -- the vote for EveryNthEpoch(3), era 5, number 0, as 28 bytes
     ∷ encoded
     (record { change = encryptionSchedule (EveryNthEpoch 3); era = 5; num = 0 })
