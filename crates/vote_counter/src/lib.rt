@@ -211,7 +211,7 @@ impl VoteCounter {
     }
 
     // An own vote; row 11 where the own pending vote's number is the last.
-    pub fn sign_vote_for(self, change: Change) -> VoteSigned
+    pub fn sign_vote_for(mut self, change: Change) -> VoteSigned
         ensures { λ r. ⌜ signedAnswer r ≡ signVoteFor base (counterOf self) (changeOf change) ⌝ }
     {
         let pending = self.pending;
