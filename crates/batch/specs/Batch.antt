@@ -1,7 +1,7 @@
 -- 01: the report is epoch, era of the batch, change, map and parameters. And the join plan that a report gives.
 use Prim.Native.Nat.{ℕ, _+_}
 use mathlib.Core.List.{List}
-use mathlib.Core.Bool.{Bool, true, false, cond}
+use mathlib.Core.Bool.{Bool, true, false, not, cond}
 use lib.Dec.{eqb}
 use Rattle.lists.specs.Lists.{Found, found, nothing}
 use Rattle.bincode.specs.Sizes.{Sizes}
@@ -30,6 +30,21 @@ abbrev pub changed : ChangeStateOf → Bool
 changed none = false
 changed (inProgress c) = true
 changed (complete c) = true
+
+-- A proper plan (demand 3) is of a batch that began a new era: the era after it is the one behind its epoch. The report alone does not say so, since a winner
+-- equal to the candidate map is reported too and restarts nothing.
+unfoldable pub beganEra : BatchOf → ℕ → Bool
+beganEra b era = eqb era (b .epoch + 1)
+
+-- And the batch left no older key generation: one that runs after it is the one that it reports in progress. A schedule that wins keeps an older one.
+abbrev pub isProgress : ChangeStateOf → Bool
+isProgress none = false
+isProgress (inProgress c) = true
+isProgress (complete c) = false
+
+unfoldable pub leftOlder : BatchOf → Found (List Node) → Bool
+leftOlder b (found candidate) = not (isProgress (b .change))
+leftOlder b nothing = false
 
 -- the plan of a report: the next epoch begins the joiner's era
 abbrev pub planOfBatch : BatchOf → ℕ → PlanOf

@@ -10,7 +10,7 @@ use native.Mathlib.Nat.{zero-add}
 use lib.Dec.{ltb, eqb}
 use lib.ListN.{length, drop, getD, set, replicate, List·getD-eq-default}
 use lib.Seq.{drop-cons}
-use borrow.Author.Tests.{ltb-true, ltb-false}
+use borrow.Author.Tests.{ltb-true, ltb-false, lt-ltb, le-ltb}
 use Rattle.lists.specs.Lists.{found, nothing, lookup, insert, marked, filter}
 use Rattle.lists.proofs.MarkedLaws.{marked-lookup, marked-past, marked-set, marked-yes, marked-no, marked-end}
 use Rattle.bincode.specs.Sizes.{base}
@@ -18,7 +18,6 @@ use Rattle.pub_key_map.specs.declared.PubKeyMap.{PubKeyMap}
 use Rattle.pub_key_map.specs.PubKeyMap.{nodesOf}
 use Rattle.key_gen.specs.declared.Proposal.{Proposal}
 use Rattle.key_gen.specs.KeyGen.{ProposalOf, KeyGenOf, Effect, quiet, indices, isHere, acked, proposalAt, byProposer, isRecorded, partsOf, noProposal, keyGenOf, freshHeld, withParts, observes, complete, handled, rowEffect, valueEffect, recordPart, recordAck}
-use Rattle.key_gen.proofs.CountLaws.{complete-quorum}
 
 -- turns of a loop that counts marked elements, all of them or those of which a test holds
 module _ {A B : Type 0} (size : List B → ℕ) (mark : A → Bool) (view : ℕ → A → B) (xs : List A) (i count n : ℕ) where
@@ -42,6 +41,16 @@ module _ {A B : Type 0} (size : List B → ℕ) (mark : A → Bool) (view : ℕ 
   pub count-end : size [] ≡ 0 → length xs ≤ i → count + size (marked mark view i (drop i xs)) ≡ n → count ≡ n
   count-end s h e = omega (arith, ap size (marked-end mark view xs i h))
 
+-- a part with n acknowledgers is complete, or not
+module _ (t n : ℕ) (q : ProposalOf) (e : n ≡ length (q .acks)) where
+  pub complete-yes : 2 * t < n → complete t q ≡ true
+  unfolding complete
+  complete-yes h = lt-ltb (2 * t) (length (q .acks)) (omega arith)
+
+  pub complete-no : n ≤ 2 * t → complete t q ≡ false
+  unfolding complete
+  complete-no h = le-ltb (2 * t) (length (q .acks)) (omega arith)
+
 -- how many parts are complete, and how one more changes it
 abbrev pub completed : ℕ → List ProposalOf → ℕ
 completed t qs = length (filter (complete t) qs)
@@ -49,19 +58,11 @@ completed t qs = length (filter (complete t) qs)
 module _ (t n : ℕ) (q : ProposalOf) (e : n ≡ length (q .acks)) (qs : List ProposalOf) where
   pub complete-more : 2 * t < n → completed t (q ∷ qs) ≡ suc (completed t qs)
   unfolding filter
-  complete-more h = go (complete t q) refl
-    where
-      go : (b : Bool) → complete t q ≡ b → length (cond b (q ∷ filter (complete t) qs) (filter (complete t) qs)) ≡ suc (completed t qs)
-      go true f = refl
-      go false f = absurd (let z : ⊥ = omega (arith, complete-quorum t q .1 f) in z)
+  complete-more h = rw (complete-yes t n q e h)
 
   pub complete-same : n ≤ 2 * t → completed t (q ∷ qs) ≡ completed t qs
   unfolding filter
-  complete-same h = go (complete t q) refl
-    where
-      go : (b : Bool) → complete t q ≡ b → length (cond b (q ∷ filter (complete t) qs) (filter (complete t) qs)) ≡ completed t qs
-      go true f = absurd (let z : ⊥ = omega (arith, complete-quorum t q .0 f) in z)
-      go false f = refl
+  complete-same h = rw (complete-no t n q e h)
 
 -- nothing is marked in a fresh array
 module _ {A B : Type 0} (mark : A → Bool) (view : ℕ → A → B) (z : A) (e : mark z ≡ false) where

@@ -139,6 +139,18 @@ complete t q = ltb (2 * t) (length (q .acks))
 unfoldable pub countComplete : KeyGenOf → ℕ
 countComplete g = length (filter (complete (threshold g)) (g .parts))
 
+-- `SyncKeyGen::is_node_ready`: the node's own part is complete
+abbrev pub completeFound : ℕ → Found ProposalOf → Bool
+completeFound t (found q) = complete t q
+completeFound t nothing = false
+
+abbrev pub readyBy : KeyGenOf → Found ℕ → Bool
+readyBy g (found i) = completeFound (threshold g) (lookup byProposer (g .parts) i)
+readyBy g nothing = false
+
+unfoldable pub nodeReady : KeyGenOf → ℕ → Bool
+nodeReady g id = readyBy g (nodeIndex (g .nodes) id)
+
 -- `SyncKeyGen::is_ready`
 unfoldable pub enough : KeyGenOf → Bool
 enough g = ltb (threshold g) (countComplete g)

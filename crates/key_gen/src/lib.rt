@@ -9,7 +9,7 @@ ghost use Rattle.util.specs.MaxFaulty.{maxFaulty};
 ghost use Rattle.network_info.specs.NetworkInfo.{isMember};
 ghost use Rattle.pub_key_map.specs.PubKeyMap.{nodesOf};
 ghost use Rattle.sync_key_gen.specs.SyncKeyGen.{partOf, ackOf};
-ghost use Rattle.key_gen.specs.KeyGen.{ProposalOf, indices, proposalAt, byProposer, handled, acked, recordPart, recordAck, ackOfIndex, keyGenOf, freshHeld, noProposal, rowEffect, valueEffect, handlePart, handleAck, countComplete, enough, ready, saidOutcome};
+ghost use Rattle.key_gen.specs.KeyGen.{ProposalOf, indices, proposalAt, byProposer, handled, acked, recordPart, recordAck, ackOfIndex, keyGenOf, freshHeld, noProposal, rowEffect, valueEffect, handlePart, handleAck, countComplete, nodeReady, enough, ready, saidOutcome};
 use fault_log::AckFault;
 use fault_log::FaultKind;
 use fault_log::PartFault;
@@ -164,6 +164,24 @@ impl KeyGen {
             i += 1;
         }
         count
+    }
+
+    // Whether the node's own part is complete.
+    pub fn is_node_ready(self, proposer: u32) -> bool
+        ensures { λ r. ⌜ r ≡ nodeReady (keyGenOf self) proposer ⌝ }
+    {
+        let map = self.pub_keys;
+        let t = self.threshold();
+        let NodeIndex::At(i) = network_info::node_index(map, proposer) else {
+            return false;
+        };
+        let p = self.proposals[i];
+        if p.recorded {
+            if 2 * t < p.ack_count() {
+                return true;
+            }
+        }
+        false
     }
 
     // `SyncKeyGen::is_ready`: more than t parts are complete.

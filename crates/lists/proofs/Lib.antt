@@ -1,3 +1,4 @@
 pub mod ListLaws
 pub mod SortedLaws
 pub mod MarkedLaws
+pub mod KeptLaws

@@ -1,13 +1,13 @@
 -- Laws of lists that code holds as an array with a count.
 -- Assumes nothing.
 use Prim.Native.Nat.{ℕ, zero, suc, _+_, _-_, _≤_, _<_}
-use mathlib.Core.Path.{_≡_, refl, sym, ap}
+use mathlib.Core.Path.{_≡_, refl, sym, ap, _∙_}
 use mathlib.Core.List.{List, [], _∷_, _++_, append-assoc}
 use mathlib.Core.Bool.{Bool, true, false, cond, _&&_}
 use native.Mathlib.Omega.{arith}
 use native.Mathlib.Numerals.{add-one}
 use lib.ListN.{length, take, drop, getD, set, replicate, length-append, length-take, length-replicate, drop-of-length-le}
-use lib.Seq.{drop-cons, getD-take, set-at, take-at}
+use lib.Seq.{drop-cons, getD-take, set-at, take-at, take-all, take-suc-set}
 use Rattle.lists.specs.Lists.{padded, eqList}
 
 -- a test does not come out both ways
@@ -47,6 +47,24 @@ module _ {A : Type 0} where
   take-live zero xs = refl
   take-live (suc n) [] = refl
   take-live (suc n) (x ∷ xs) = ap (λ (ys : List A). x ∷ ys) (take-live n xs)
+
+  -- one element more behind those below a count, in an array of `limit` places
+  module _ (xs : List A) (count limit n : ℕ) (x : A) (l : length xs ≡ limit) (e : n ≡ length (take count xs)) where
+    -- stored at the next place, it stands behind them
+    pub append-live : n < limit → take (n + 1) (set xs n x) ≡ take count xs ++ (x ∷ [])
+    append-live h =
+        let live : take n xs ≡ take count xs = ap (λ (k : ℕ). take k xs) e ∙ take-live count xs in
+        rw (add-one, take-suc-set xs n x (omega arith), live)
+
+    -- the same of a list that is cut at the limit
+    pub append-held : n < limit → take (n + 1) (set xs n x) ≡ take limit (take count xs ++ (x ∷ []))
+    append-held h = append-live h ∙ sym (take-all limit (take count xs ++ (x ∷ [])) (simp length-append (omega arith)))
+
+    -- a full array has no place for it
+    pub append-full : limit ≤ n → take count xs ≡ take limit (take count xs ++ (x ∷ []))
+    append-full h =
+        let k : length (take count xs) ≡ limit = omega (arith, length-take count xs) in
+        sym (take-at (take count xs) (x ∷ []) limit k)
 
   -- a list held in an array of n places
   module _ (n : ℕ) (none : A) where

@@ -8,7 +8,7 @@ use native.Mathlib.Omega.{arith}
 use lib.Dec.{eqb}
 use lib.ListN.{length, take, drop, getD, length-take}
 use lib.Seq.{getD-take}
-use borrow.Author.Tests.{eq-eqb, ne-eqb}
+use borrow.Author.Tests.{eq-eqb, ne-eqb, eqb-true}
 use Rattle.lists.proofs.ListLaws.{rest-none}
 use Rattle.pub_key_map.specs.declared.Node.{Node}
 use Rattle.pub_key_map.specs.PubKeyMap.{noNode}
@@ -73,3 +73,25 @@ index-within xs k i id e =
     let l : i < length xs = omega (arith, r .1, length-take k xs) in
     let z : i - 0 ≡ i = omega arith in
     (l, r .3 ∙ ap found (rw (z, getD-take k xs i noNode h)))
+
+-- the node at the index of an id has that id
+pub index-id : (ns : List Node) (j i id : ℕ) → indexFrom j ns id ≡ found i → getD ns (i - j) noNode .id ≡ id
+unfolding indexFrom
+index-id [] j i id e = absurd (never i e)
+index-id (n ∷ ns) j i id e = go (eqb (n .id) id) refl e (index-id ns (j + 1) i id) (λ r. index-found ns (j + 1) i id r .0)
+  where
+    go : (b : Bool) → eqb (n .id) id ≡ b → cond b (found j) (indexFrom (j + 1) ns id) ≡ found i
+        → (indexFrom (j + 1) ns id ≡ found i → getD ns (i - (j + 1)) noNode .id ≡ id)
+        → (indexFrom (j + 1) ns id ≡ found i → j + 1 ≤ i) → getD (n ∷ ns) (i - j) noNode .id ≡ id
+    go true f e ih low =
+        let p : j ≡ i = cc in
+        let z : i - j ≡ 0 = omega arith in
+        rw z (eqb-true (n .id) id f)
+    go false f e ih low =
+        let l = low e in
+        let z : i - j ≡ suc (i - (j + 1)) = omega arith in
+        rw z (ih e)
+
+-- two ids with one index are the same
+pub index-unique : (ns : List Node) (j i a b : ℕ) → indexFrom j ns a ≡ found i → indexFrom j ns b ≡ found i → a ≡ b
+index-unique ns j i a b e f = sym (index-id ns j i a e) ∙ index-id ns j i b f

@@ -1,0 +1,165 @@
+// dynamic_honey_badger.rs: what `new` and `new_joining` check before a node starts. The Rust's asserts and errors are refusals here.
+ghost use mathlib.Core.Path.{_≡_};
+ghost use Rattle.bincode.specs.Outcome.{refused};
+ghost use Rattle.bincode.specs.Sizes.{base};
+ghost use Rattle.join_plan.specs.JoinPlan.{planOf};
+ghost use Rattle.joining.specs.Starting.{saidStart, joiningOf, joinChecked, joinPlan, joinRow8, joinRow10, startingOf, startChecked};
+use bincode::Step;
+use change::ChangeKind;
+use change::Progress;
+use due::DueList;
+use honey_badger::EncryptionSchedule;
+use join_plan::JoinPlan;
+use params::Params;
+use params::ReadParams;
+use params::SubsetHandlingStrategy;
+use pub_key_map::PubKeyMap;
+
+pub enum StartOutcome {
+    Accepted,
+    Refused(u8),
+}
+
+// A plan that a node may start from, or a refusal; then the plan does not count.
+pub struct Joining {
+    pub outcome: StartOutcome,
+    pub plan: JoinPlan,
+}
+
+// A map and parameters that a node may start from, or a refusal; then they do not count.
+pub struct Starting {
+    pub outcome: StartOutcome,
+    pub pub_keys: PubKeyMap,
+    pub params: Params,
+}
+
+// Row 8: the plan's map, or its in-progress map, is empty.
+fn has_empty_map(p: JoinPlan) -> bool
+    ensures { λ r. ⌜ r ≡ joinRow8 (planOf p) ⌝ }
+{
+    let keys = p.pub_keys;
+    if keys.len() == 0 {
+        return true;
+    }
+    let state = p.change;
+    let progress = state.progress;
+    let change = state.change;
+    let kind = change.kind;
+    let map = change.map;
+    match progress {
+        Progress::None => false,
+        Progress::Complete => false,
+        Progress::InProgress => match kind {
+            ChangeKind::NodeChange => map.len() == 0,
+            ChangeKind::EncryptionSchedule(_) => false,
+        },
+    }
+}
+
+// Row 10: a complete change differs from the plan.
+fn has_other_change(p: JoinPlan) -> bool
+    ensures { λ r. ⌜ r ≡ joinRow10 (planOf p) ⌝ }
+{
+    let keys = p.pub_keys;
+    let params = p.params;
+    let current = params.encryption_schedule;
+    let state = p.change;
+    let progress = state.progress;
+    let change = state.change;
+    let kind = change.kind;
+    let map = change.map;
+    match progress {
+        Progress::None => false,
+        Progress::InProgress => false,
+        Progress::Complete => match kind {
+            ChangeKind::NodeChange => !map.same(keys),
+            ChangeKind::EncryptionSchedule(schedule) => !schedule.same(current),
+        },
+    }
+}
+
+// The rows behind reading, in order.
+fn check_plan(our_id: u32, secret_key: u64, plan: JoinPlan) -> StartOutcome
+    ensures { λ r. ⌜ saidStart r (planOf plan) ≡ joinPlan «our_id» «secret_key» (planOf plan) ⌝ }
+{
+    let keys = plan.pub_keys;
+    if secret_key == 0 {
+        return StartOutcome::Refused(2);
+    }
+    if has_empty_map(plan) {
+        return StartOutcome::Refused(8);
+    }
+    if network_info::is_member(keys, our_id) {
+        return StartOutcome::Refused(9);
+    }
+    if has_other_change(plan) {
+        return StartOutcome::Refused(10);
+    }
+    StartOutcome::Accepted
+}
+
+// Joining: 1 for fewer places lent for due items than 01 says; 2 and 3 of the plan, then of the own key; 8; 9; 10.
+pub fn check_joining(due_places: usize, our_id: u32, secret_key: u64, plan: &[u8]) -> Joining
+    ensures { λ r. ⌜ joiningOf r ≡ joinChecked base «due_places» «our_id» «secret_key» (now (plan .entry)) ⌝ }
+{
+    let r = join_plan::read_plan(plan);
+    let step = r.step;
+    let read = r.plan;
+    if due_places < DueList::LIMIT {
+        return Joining {
+            outcome: StartOutcome::Refused(1),
+            plan: read,
+        };
+    }
+    let Step::Next(_) = step else {
+        return Joining {
+            outcome: StartOutcome::Refused(step.number()),
+            plan: read,
+        };
+    };
+    Joining {
+        outcome: check_plan(our_id, secret_key, read),
+        plan: read,
+    }
+}
+
+fn refused_start(n: u8) -> Starting
+    ensures { λ r. ⌜ startingOf r ≡ refused n ⌝ }
+{
+    Starting {
+        outcome: StartOutcome::Refused(n),
+        pub_keys: PubKeyMap::empty(),
+        params: Params {
+            max_future_epochs: 0,
+            subset_handling_strategy: SubsetHandlingStrategy::Incremental,
+            encryption_schedule: EncryptionSchedule::Always,
+        },
+    }
+}
+
+// Starting: 2 and 3 of the map, of the parameters, then of the own key; 8.
+pub fn check_starting(secret_key: u64, map: &[u8], params: &[u8]) -> Starting
+    ensures { λ r. ⌜ startingOf r ≡ startChecked base «secret_key» (now (map .entry)) (now (params .entry)) ⌝ }
+{
+    let m = pub_key_map::read_whole_map(map);
+    let step = m.step;
+    let pub_keys = m.map;
+    let Step::Next(_) = step else {
+        return refused_start(step.number());
+    };
+    let p = params::read_whole_params(params);
+    let ReadParams::Value(read, _) = p else {
+        return refused_start(p.number());
+    };
+    if secret_key == 0 {
+        return refused_start(2);
+    }
+    if pub_keys.len() == 0 {
+        return refused_start(8);
+    }
+    Starting {
+        outcome: StartOutcome::Accepted,
+        pub_keys,
+        params: read,
+    }
+}

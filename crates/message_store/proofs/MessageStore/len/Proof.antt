@@ -1,0 +1,24 @@
+use native.Mathlib.Omega.{arith}
+use mathlib.Core.Path.{_≡_, sym, _∙_}
+use lib.ListN.{length, length-map}
+use Rattle.lists.proofs.ListLaws.{length-live}
+use Rattle.bincode.specs.Sizes.{base}
+use Rattle.key_gen_message.specs.KeyGenMessage.{signedOf}
+use Rattle.message_store.specs.MessageStore.{held}
+use Rattle.message_store.proofs.MessageStore.len.Statement.{statement}
+use Rattle.message_store.proofs.MessageStore.len.Tie as tie
+
+returns : tie.Need-returns
+returns c =
+    let m = c .before .args .self in
+    let l : length (m .messages) ≡ base .store = simp length-map at (c .before .good .0 .1 .1 .1 .0 .1 .0 .1) in
+    (sym (length-map (held m) signedOf ∙ length-live (m .messages) (m .count) (base .store) l .0 (omega arith)), omega arith)
+
+returns-2 : tie.Need-returns-2
+returns-2 c =
+    let m = c .before .args .self in
+    let l : length (m .messages) ≡ base .store = simp length-map at (c .before .good .0 .1 .1 .1 .0 .1 .0 .1) in
+    (sym (length-map (held m) signedOf ∙ length-live (m .messages) (m .count) (base .store) l .1 (omega arith)), omega arith)
+
+pub len-spec : {M : Type 1} → statement M
+len-spec = tie.close (tie.spec returns returns-2)

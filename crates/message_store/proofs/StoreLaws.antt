@@ -1,0 +1,51 @@
+-- Laws of the message store as an array with a count.
+-- Assumes nothing.
+use Prim.Native.Nat.{ℕ, zero, suc, _≤_, _<_}
+use mathlib.Core.Path.{_≡_, refl}
+use mathlib.Core.List.{List, [], _∷_, _++_, map}
+use mathlib.Core.Bool.{true, false}
+use native.Mathlib.Omega.{arith}
+use lib.ListN.{length, take, getD}
+use borrow.Author.Tests.{le-leb, lt-leb}
+use Rattle.lists.specs.Lists.{found, nothing}
+use Rattle.bincode.specs.Sizes.{Sizes}
+use Rattle.bincode.specs.Outcome.{done, refused}
+use Rattle.key_gen_message.specs.KeyGenMessage.{SignedKeyGenMsgOf}
+use Rattle.message_store.specs.MessageStore.{row12, pushed, messageAt}
+
+module _ (z : Sizes) (ms : List SignedKeyGenMsgOf) where
+  -- row 12 does not hold where fewer are held than there are places
+  pub row12-not : length ms < z .store → row12 z ms ≡ false
+  unfolding row12
+  row12-not h = lt-leb (z .store) (length ms) h
+
+  -- it holds where as many are
+  pub row12-holds : z .store ≤ length ms → row12 z ms ≡ true
+  unfolding row12
+  row12-holds h = le-leb (z .store) (length ms) h
+
+  -- a message is refused by row 12
+  pub push-full : (m : SignedKeyGenMsgOf) → z .store ≤ length ms → pushed z ms m ≡ refused 12
+  unfolding pushed
+  push-full m h = rw (row12-holds h)
+
+  -- or stands behind the others
+  pub push-room : (m : SignedKeyGenMsgOf) → length ms < z .store → pushed z ms m ≡ done (ms ++ (m ∷ []))
+  unfolding pushed
+  push-room m h = rw (row12-not h)
+
+-- what stands at a place
+module _ {A : Type 0} (f : A → SignedKeyGenMsgOf) where
+  pub at-held : (xs : List A) (count i : ℕ) (x : A) → i < length (take count xs) → messageAt i (map f (take count xs)) ≡ found (f (getD xs i x))
+  unfolding messageAt
+  at-held xs zero i x h = absurd (let y : ⊥ = omega arith in y)
+  at-held [] (suc count) i x h = absurd (let y : ⊥ = omega arith in y)
+  at-held (y ∷ xs) (suc count) zero x h = refl
+  at-held (y ∷ xs) (suc count) (suc i) x h = at-held xs count i x (omega arith)
+
+-- past the last nothing stands
+pub at-past : (ms : List SignedKeyGenMsgOf) (i : ℕ) → length ms ≤ i → messageAt i ms ≡ nothing
+unfolding messageAt
+at-past [] i h = refl
+at-past (m ∷ ms) zero h = absurd (let y : ⊥ = omega arith in y)
+at-past (m ∷ ms) (suc i) h = at-past ms i (omega arith)
