@@ -16,13 +16,11 @@ module _ {A : Type 0} (p : A → Bool) (n : ℕ) where
   abbrev pub keptAnd : List A → ℕ → ℕ → List A
   keptAnd ys kept i = take kept ys ++ filter p (drop i (take n ys))
 
-  -- turns of the loop
+  -- a turn of the loop: the element passes and is stored behind those kept, or it does not
   module _ (ys : List A) (kept i : ℕ) (z : A) (k : kept ≤ i) (l : i < n) (h : n ≤ length ys) where
-    -- the element in turn, and what is left behind it
     next : drop i (take n ys) ≡ getD ys i z ∷ drop (i + 1) (take n ys)
     next = rest-more ys n i z (simp length-take (omega arith))
 
-    -- the element passes and is stored behind those kept
     pub kept-yes : p (getD ys i z) ≡ true → keptAnd ys kept i ≡ keptAnd (set ys kept (getD ys i z)) (kept + 1) (i + 1)
     unfolding filter
     kept-yes e =
@@ -31,7 +29,6 @@ module _ {A : Type 0} (p : A → Bool) (n : ℕ) where
         let rest : drop (i + 1) (take n (set ys kept x)) ≡ drop (i + 1) (take n ys) = rw (take-set-lt n ys kept x (omega arith)) (drop-set-lt (i + 1) (take n ys) kept x (omega arith)) in
         rw (next, e, front, rest, append-assoc)
 
-    -- the element does not pass
     pub kept-no : p (getD ys i z) ≡ false → keptAnd ys kept i ≡ keptAnd ys kept (i + 1)
     unfolding filter
     kept-no e = rw (next, e)
@@ -53,30 +50,29 @@ module _ {A B : Type 0} (f : A → B) (q : B → Bool) where
       go true e = ap (λ (ys : List B). f x ∷ ys) e
       go false e = e
 
--- A loop over the elements below a count, n of them, in an array of `limit` places, with a test on what they stand for.
+-- A loop over the elements below a count, n of them, in an array of `limit` places: where it stands, and how it goes on. What it keeps stands for what passes the test.
 module _ {A B : Type 0} (f : A → B) (q : B → Bool) (xs : List A) (count limit n : ℕ) where
-  -- where the loop stands: those kept, and those of the rest that pass, are those of the whole that pass
   abbrev pub Keeping : List A → ℕ → ℕ → Type 0
   Keeping ys kept i =
       (kept ≤ i) × (i ≤ n) × (n ≤ limit) × (length ys ≡ limit) × (keptAnd (λ x. q (f x)) n ys kept i ≡ filter (λ x. q (f x)) (take count xs))
 
-  -- where it begins
   pub keep-start : length xs ≡ limit → n ≡ length (map f (take count xs)) → n ≤ limit → Keeping xs 0 0
   keep-start l e h =
       let live : take n xs ≡ take count xs = ap (λ (k : ℕ). take k xs) (e ∙ length-map (take count xs) f) ∙ take-live count xs in
       (omega arith, omega arith, h, l, ap (filter (λ x. q (f x))) live)
 
-  -- a turn
+  -- a turn: the element passes and is stored behind those kept, or it does not
   module _ (ys : List A) (kept i : ℕ) (z : A) (v : Keeping ys kept i) (l : i < n) where
-    -- with an element that passes
     pub keep-yes : q (f (getD ys i z)) ≡ true → Keeping (set ys kept (getD ys i z)) (kept + 1) (i + 1)
     keep-yes e =
         (omega (arith, v .0), omega arith, v .2, length-set ys kept (getD ys i z) ∙ v .3, sym (kept-yes (λ x. q (f x)) n ys kept i z (v .0) l (omega (arith, v .2, v .3)) e) ∙ v .4)
 
-    -- with one that does not
     pub keep-no : q (f (getD ys i z)) ≡ false → Keeping ys kept (i + 1)
     keep-no e = (omega (arith, v .0), omega arith, v .2, v .3, sym (kept-no (λ x. q (f x)) n ys kept i z (v .0) l (omega (arith, v .2, v .3)) e) ∙ v .4)
 
-  -- where it ends, what it kept stands for what passes the test
+  -- nothing is left: the elements kept, and what they stand for
+  pub keep-held : (ys : List A) (kept i : ℕ) → Keeping ys kept i → n ≤ i → take kept ys ≡ filter (λ x. q (f x)) (take count xs)
+  keep-held ys kept i v h = sym (kept-end (λ x. q (f x)) n ys kept i h) ∙ v .4
+
   pub keep-end : (ys : List A) (kept i : ℕ) → Keeping ys kept i → n ≤ i → map f (take kept ys) ≡ filter q (map f (take count xs))
-  keep-end ys kept i v h = ap (map f) (sym (kept-end (λ x. q (f x)) n ys kept i h) ∙ v .4) ∙ map-filter f q (take count xs)
+  keep-end ys kept i v h = ap (map f) (keep-held ys kept i v h) ∙ map-filter f q (take count xs)

@@ -2,3 +2,4 @@ pub mod ListLaws
 pub mod SortedLaws
 pub mod MarkedLaws
 pub mod KeptLaws
+pub mod FilterLaws

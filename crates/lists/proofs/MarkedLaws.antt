@@ -1,16 +1,15 @@
 -- Laws of arrays whose marked elements are a list by ascending place.
 -- Assumes nothing.
-use Prim.Native.Nat.{ℕ, zero, suc, _+_, _-_, _≤_, _<_}
-use mathlib.Core.Path.{_≡_, refl, sym, ap, _∙_}
+use Prim.Native.Nat.{ℕ, zero, suc, _+_, _≤_, _<_}
+use mathlib.Core.Path.{_≡_, refl, sym, ap}
 use mathlib.Core.List.{List, [], _∷_}
 use mathlib.Core.Bool.{Bool, true, false, cond}
 use native.Mathlib.Omega.{arith}
 use native.Mathlib.Nat.{add-zero}
 use native.Mathlib.Numerals.{add-one}
-use lib.Dec.{ltb, eqb}
 use lib.ListN.{length, drop, getD, set}
 use borrow.Author.Tests.{lt-ltb, le-ltb, eq-eqb, ne-eqb}
-use Rattle.lists.specs.Lists.{Found, found, nothing, lookup, insert, marked, filter}
+use Rattle.lists.specs.Lists.{found, nothing, lookup, insert, marked}
 use Rattle.lists.proofs.ListLaws.{rest-none}
 
 module _ {A B : Type 0} (mark : A → Bool) (view : ℕ → A → B) (key : B → ℕ) (keyed : (i : ℕ) (x : A) → key (view i x) ≡ i) where

@@ -1,6 +1,6 @@
 -- Laws of lists that are sorted by a key and held in an array with a count.
 -- Assumes nothing.
-use Prim.Native.Nat.{ℕ, zero, suc, _+_, _-_, _≤_, _<_}
+use Prim.Native.Nat.{ℕ, suc, _+_, _-_, _≤_, _<_}
 use mathlib.Core.Path.{_≡_, refl, sym, ap, _∙_}
 use mathlib.Core.List.{List, [], _∷_, _++_, append-assoc, map}
 use mathlib.Core.Bool.{Bool, true, false, cond}
@@ -8,9 +8,9 @@ use native.Mathlib.Omega.{arith}
 use native.Mathlib.Numerals.{add-one}
 use lib.Dec.{ltb, eqb}
 use lib.ListN.{length, take, drop, getD, set, length-append, length-take, length-drop, List·getD-append, length-map}
-use lib.Seq.{set-at, take-at, take-suc, drop-cons, length-take-le, getD-take, split-at, getD-append-seam, take-take}
-use borrow.Author.Tests.{lt-ltb, le-ltb, ltb-true, ltb-false, eq-eqb, ne-eqb, eqb-true, eqb-false}
-use Rattle.lists.specs.Lists.{Found, found, nothing, mapFound, lookup, below, insert, hasKey, insertWithin}
+use lib.Seq.{set-at, take-at, take-suc, length-take-le, getD-take, split-at, take-take, take-set-lt}
+use borrow.Author.Tests.{lt-ltb, le-ltb, ltb-true, eq-eqb, ne-eqb, eqb-true}
+use Rattle.lists.specs.Lists.{found, nothing, mapFound, lookup, below, insert, hasKey, insertWithin}
 use Rattle.lists.proofs.ListLaws.{rest-more, rest-none}
 
 module _ {A : Type 0} (key : A → ℕ) where
@@ -121,6 +121,12 @@ module _ {A : Type 0} (xs : List A) (n : ℕ) (h : n < length xs) where
       let moved : set ys (j + 1) v ≡ take (j + 1) xs ++ (v ∷ rest) = ap (λ (l : List A). set l (j + 1) v) (s .1) ∙ set-at (take (j + 1) xs) (s .0) rest v (j + 1) front in
       (v, rw (at-j, moved, one, append-assoc, next))
 
+  -- the same turn where the loop counts down
+  pub shift-down : (j : ℕ) (ys : List A) (z : A) → 0 < j → j ≤ n → Shifted j ys → Shifted (j - 1) (set ys j (getD ys (j - 1) z))
+  shift-down j ys z l k s =
+      let e : (j - 1) + 1 ≡ j = omega arith in
+      rw e at (shift-more (j - 1) ys z (omega arith) (rw e s))
+
   pub shift-done : (j : ℕ) (ys : List A) (a : A) → j ≤ n → Shifted j ys → take (n + 1) (set ys j a) ≡ take j (take n xs) ++ (a ∷ drop j (take n xs))
   shift-done j ys a l s =
       let rest = drop j (take n xs) in
@@ -169,3 +175,90 @@ module _ {A B : Type 0} (f : A → B) (key : B → ℕ) where
       go : (b : Bool) → mapFound f (lookup keyOf xs k) ≡ lookup key (map f xs) k → mapFound f (cond b (found x) (lookup keyOf xs k)) ≡ cond b (found (f x)) (lookup key (map f xs) k)
       go true e = refl
       go false e = e
+
+-- an element put into those of an array below a count, where p is the place of its key
+module _ {A : Type 0} (key : A → ℕ) (a : A) (xs : List A) (p : ℕ) where
+  -- none has the key, and the element belongs at the place
+  abbrev pub NewAt : Type 0
+  NewAt = (hasKey key (key a) xs ≡ false) × (insert key a xs ≡ take p xs ++ (a ∷ drop p xs))
+
+module _ {A : Type 0} (key : A → ℕ) (a : A) (xs : List A) (n p : ℕ) where
+  module _ (e : p ≡ below key (key a) (take n xs)) where
+    pub new-last : length (take n xs) ≤ p → NewAt key a (take n xs) p
+    new-last l = rw e (at-other key a a (take n xs) (λ k _. let y : ⊥ = omega arith in y))
+
+    module _ (z : A) (l : p < length (take n xs)) where
+      stands : getD (take n xs) p z ≡ getD xs p z
+      stands = getD-take n xs p z (omega (arith, length-take n xs))
+
+      pub new-between : (key (getD xs p z) ≡ key a → ⊥) → NewAt key a (take n xs) p
+      new-between h = rw e (at-other key a z (take n xs) (λ _ g. h (rw (← stands, e) g)))
+
+      -- the element at the place has the key: it is found, and the new one is stored in its place
+      module _ (h : key (getD xs p z) ≡ key a) where
+        same-at : (hasKey key (key a) (take n xs) ≡ true) × (insert key a (take n xs) ≡ set (take n xs) (below key (key a) (take n xs)) a)
+        same-at = let g : key (getD (take n xs) p z) ≡ key a = rw stands h in at-same key a z (take n xs) (rw e at l) (rw e at g)
+
+        pub key-stands : hasKey key (key a) (take n xs) ≡ true
+        key-stands = same-at .0
+
+        pub held-same : (limit : ℕ) → take n (set xs p a) ≡ insertWithin key limit a (take n xs)
+        held-same limit =
+            let i : take n (set xs p a) ≡ set (take n xs) p a = take-set-lt n xs p a (omega (arith, length-take n xs)) in
+            i ∙ rw e (sym (same-at .1)) ∙ sym (within-same key limit a (take n xs) (same-at .0))
+
+  module _ (s : NewAt key a (take n xs) p) (limit : ℕ) where
+    pub held-new : length (take n xs) < limit → take p (take n xs) ++ (a ∷ drop p (take n xs)) ≡ insertWithin key limit a (take n xs)
+    held-new l = sym (within-new key limit a (take n xs) (s .0) l ∙ s .1)
+
+    pub held-full : limit ≤ length (take n xs) → take n xs ≡ insertWithin key limit a (take n xs)
+    held-full l = sym (within-full key limit a (take n xs) (s .0) l)
+
+-- the same of what the elements stand for, where that has the key
+module _ {A B : Type 0} (f : A → B) (key : B → ℕ) (a : A) (xs : List A) (n p limit : ℕ) where
+  pub put-same : p ≡ below (keyOf f key) (key (f a)) (take n xs) → (z : A) → p < length (take n xs) → key (f (getD xs p z)) ≡ key (f a)
+      → map f (take n (set xs p a)) ≡ insertWithin key limit (f a) (map f (take n xs))
+  put-same e z l h = ap (map f) (held-same (keyOf f key) a xs n p e z l h limit) ∙ map-insertWithin f key limit a (take n xs)
+
+  module _ (s : NewAt (keyOf f key) a (take n xs) p) where
+    pub put-new : length (take n xs) < limit → map f (take p (take n xs) ++ (a ∷ drop p (take n xs))) ≡ insertWithin key limit (f a) (map f (take n xs))
+    put-new l = ap (map f) (held-new (keyOf f key) a xs n p s limit l) ∙ map-insertWithin f key limit a (take n xs)
+
+    pub put-full : limit ≤ length (take n xs) → map f (take n xs) ≡ insertWithin key limit (f a) (map f (take n xs))
+    put-full l = ap (map f) (held-full (keyOf f key) a xs n p s limit l) ∙ map-insertWithin f key limit a (take n xs)
+
+-- what an insertion does to a list, sorted or not
+module _ {A : Type 0} (key : A → ℕ) where
+  -- the element is found by its key
+  pub insert-lookup : (a : A) (xs : List A) → lookup key (insert key a xs) (key a) ≡ found a
+  unfolding insert lookup
+  insert-lookup a [] = rw (eq-eqb (key a) (key a) refl)
+  insert-lookup a (x ∷ xs) = go (ltb (key x) (key a)) refl (eqb (key x) (key a)) (insert-lookup a xs)
+    where
+      go : (p : Bool) → ltb (key x) (key a) ≡ p → (q : Bool) → lookup key (insert key a xs) (key a) ≡ found a
+          → lookup key (cond p (x ∷ insert key a xs) (cond q (a ∷ xs) (a ∷ x ∷ xs))) (key a) ≡ found a
+      go true e q ih = let l : key x < key a = ltb-true (key x) (key a) e in rw (ne-eqb (key x) (key a) (λ f. omega arith)) ih
+      go false e true ih = rw (eq-eqb (key a) (key a) refl)
+      go false e false ih = rw (eq-eqb (key a) (key a) refl)
+
+  -- what is found by another key stays
+  pub insert-other : (a : A) (xs : List A) (k : ℕ) → (key a ≡ k → ⊥) → lookup key (insert key a xs) k ≡ lookup key xs k
+  unfolding insert lookup
+  insert-other a [] k n = rw (ne-eqb (key a) k n)
+  insert-other a (x ∷ xs) k n = go (ltb (key x) (key a)) (eqb (key x) (key a)) refl (insert-other a xs k n)
+    where
+      go : (p q : Bool) → eqb (key x) (key a) ≡ q → lookup key (insert key a xs) k ≡ lookup key xs k
+          → lookup key (cond p (x ∷ insert key a xs) (cond q (a ∷ xs) (a ∷ x ∷ xs))) k ≡ cond (eqb (key x) k) (found x) (lookup key xs k)
+      go true q e ih = ap (cond (eqb (key x) k) (found x)) ih
+      go false true e ih = let f : key x ≡ key a = eqb-true (key x) (key a) e in rw (ne-eqb (key a) k n, f, ne-eqb (key a) k n)
+      go false false e ih = rw (ne-eqb (key a) k n)
+
+  -- the same where there is room for a limit only
+  pub within-other : (limit : ℕ) (a : A) (xs : List A) (k : ℕ) → (key a ≡ k → ⊥) → lookup key (insertWithin key limit a xs) k ≡ lookup key xs k
+  unfolding insertWithin
+  within-other limit a xs k n = go (hasKey key (key a) xs) (ltb (length xs) limit)
+    where
+      go : (p q : Bool) → lookup key (cond p (insert key a xs) (cond q (insert key a xs) xs)) k ≡ lookup key xs k
+      go true q = insert-other a xs k n
+      go false true = insert-other a xs k n
+      go false false = refl

@@ -3,7 +3,7 @@ use Prim.Native.Nat.{ℕ, suc, _-_}
 use mathlib.Core.List.{List, [], _∷_, _++_}
 use mathlib.Core.Bool.{Bool, true, false, cond, _&&_}
 use lib.ListN.{length, replicate}
-use lib.Dec.{ltb, leb, eqb}
+use lib.Dec.{ltb, eqb}
 
 module _ {A : Type 0} where
   -- a list as an array of n places holds it: the places behind it are empty

@@ -1,7 +1,7 @@
 -- Turns of the two loops that look for the winner: voters by ascending place, and for each the choices up to its own.
 -- Assumes nothing.
 use Prim.Native.Nat.{ℕ, _+_, _-_, _≤_, _<_}
-use mathlib.Core.Path.{_≡_, _∙_}
+use mathlib.Core.Path.{_≡_, sym, ap, _∙_}
 use mathlib.Core.List.{List, [], _∷_}
 use mathlib.Core.Bool.{Bool, true, false, cond}
 use native.Mathlib.Omega.{arith}
@@ -10,10 +10,13 @@ use lib.Dec.{ltb}
 use lib.ListN.{length, take, drop, getD}
 use lib.Seq.{take-suc, drop-cons, take-add}
 use borrow.Author.Tests.{lt-ltb, le-ltb}
-use Rattle.lists.specs.Lists.{found, nothing}
+use Rattle.lists.specs.Lists.{Found, found, nothing}
 use Rattle.lists.proofs.ListLaws.{rest-none}
 use Rattle.winner.specs.Winner.{support, winnerAfter}
 use Rattle.winner.proofs.WinnerLaws.{support-append}
+use Rattle.vote_counter.specs.Answers.{saidWinner}
+use Rattle.vote_counter.specs.declared.Winner.{Winner}
+use Rattle.vote_counter.specs.declared.Winner.the-variants.{Voter, Nobody}
 
 module _ {A : Type 0} (eq : A → A → Bool) (xs : List A) where
   -- one more choice is counted
@@ -55,3 +58,11 @@ module _ {A : Type 0} (eq : A → A → Bool) (xs : List A) where
     pub voters-end : length xs ≤ i → winnerAfter eq f (take i xs) (drop i xs) ≡ nothing
     unfolding winnerAfter
     voters-end l = rw (rest-none xs i l)
+
+-- where nobody wins there is no place
+pub nobody-no-place : (w : Winner) (i n : ℕ) → w ≡ Nobody → saidWinner w ≡ found i → i < n
+nobody-no-place w i n e h = absurd (let q : _≡_ {A = Found ℕ} nothing (found i) = sym (ap saidWinner e) ∙ h in let z : _≡_ {A = ℕ} 0 1 = cc in let y : ⊥ = omega arith in y)
+
+-- the place that is told is the winner's
+pub told-place : (i j n : ℕ) → saidWinner (Voter i) ≡ found j → i < n → j < n
+told-place i j n e l = let q : i ≡ j = cc in omega (arith, q)

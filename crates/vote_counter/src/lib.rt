@@ -1,8 +1,8 @@
 // votes.rs: the counter of pending and committed votes of one era.
 ghost use mathlib.Core.Path.{_≡_};
-ghost use Prim.Native.Nat.{_<_};
+ghost use Prim.Native.Nat.{ℕ, _<_};
 ghost use lib.ListN.{length};
-ghost use Rattle.lists.specs.Lists.{mapFound};
+ghost use Rattle.lists.specs.Lists.{found, mapFound};
 ghost use Rattle.bincode.specs.Sizes.{base};
 ghost use Rattle.bincode.specs.Outcome.{done};
 ghost use Rattle.pub_key_map.specs.PubKeyMap.{nodesOf};
@@ -258,9 +258,9 @@ impl VoteCounter {
         }
     }
 
-    // The first voter, by ascending id, whose change more than f voters up to there have chosen.
+    // The first voter, by ascending id, whose change more than f voters up to there have chosen; its place is one of the votes.
     pub fn compute_winner(self) -> Winner
-        ensures { λ r. ⌜ mapFound (choiceAt (votesOf (self .committed))) (saidWinner r) ≡ computeWinner (counterOf self) ⌝ }
+        ensures { λ r. ⌜ (mapFound (choiceAt (votesOf (self .committed))) (saidWinner r) ≡ computeWinner (counterOf self)) × ((i : ℕ) → saidWinner r ≡ found i → i < length (votesOf (self .committed))) ⌝ }
     {
         let map = self.pub_keys;
         let f = network_info::num_faulty(map);

@@ -3,9 +3,8 @@ use mathlib.Core.Path.{_≡_}
 use Prim.Native.Nat.{_≤_, _<_}
 use native.Mathlib.Omega.{arith}
 use lib.ListN.{length, length-map, length-set}
-use Rattle.lists.proofs.SortedLaws.{Shifted, shift-start, shift-done}
+use Rattle.lists.proofs.SortedLaws.{Shifted, shift-start, shift-down, shift-done}
 use Rattle.bincode.specs.Sizes.{base}
-use Rattle.signed_votes.proofs.VotesLaws.{shift-down}
 use Rattle.signed_votes.proofs.SignedVotes.shift.Statement.{statement}
 use Rattle.signed_votes.proofs.SignedVotes.shift.Tie as tie
 

@@ -15,7 +15,7 @@ use Rattle.signed_votes.specs.declared.SignedVotes.{SignedVotes}
 use Rattle.vote_counter.specs.VoteCounter.{computeWinner}
 use Rattle.vote_counter.specs.Answers.{choiceAt, saidWinner}
 use Rattle.vote_counter.specs.declared.Winner.the-variants.{Nobody}
-use Rattle.vote_counter.proofs.WinnerTurns.{count-yes, count-no, voter-wins, voter-loses, voters-end}
+use Rattle.vote_counter.proofs.WinnerTurns.{count-yes, count-no, voter-wins, voter-loses, voters-end, nobody-no-place, told-place}
 use borrow.Author.Needs.{needs}
 use Rattle.vote_counter.proofs.VoteCounter.compute_winner.Statement.{statement}
 use Rattle.vote_counter.proofs.VoteCounter.compute_winner.Tie as tie
@@ -106,9 +106,11 @@ returns : tie.Need-returns Inv-loop μ-loop Inv-voters μ-voters
 unfolding computeWinner
 returns c =
     let x = c .before .before .before .before .before .before .args .self .committed in
-    let u = c .before .voters .inv in
-    ap (λ (w : Winner). mapFound (choiceAt (votesOf x)) (saidWinner w)) (u .3)
-    ∙ sym (rw (c .before .before .before .before .num-faulty .ensures) at (u .4 ∙ voters-end sameChange (choices x) _ (c .before .voters .i) (omega (arith, length-map (votesOf x) (λ v. v .vote .change), u .2, c .voters-test .left))))
+    let u = c .before .voters .inv in (
+      ap (λ (w : Winner). mapFound (choiceAt (votesOf x)) (saidWinner w)) (u .3)
+          ∙ sym (rw (c .before .before .before .before .num-faulty .ensures) at (u .4 ∙ voters-end sameChange (choices x) _ (c .before .voters .i) (omega (arith, length-map (votesOf x) (λ v. v .vote .change), u .2, c .voters-test .left)))),
+      λ i e. nobody-no-place _ i (length (votesOf x)) (u .3) e,
+    )
 
 returns-2 : tie.Need-returns-2 Inv-loop μ-loop Inv-voters μ-voters
 unfolding computeWinner
@@ -120,9 +122,11 @@ returns-2 c =
     let v = c .before .before .before .before .loop .inv in
     let l : i < length (choices x) = omega (arith, length-map (votesOf x) (λ v. v .vote .change), u .2, c .before .before .before .before .before .before .voters-test .taken) in
     let m : j < length (choices x) = omega (arith, c .before .before .before .loop-test .taken) in
-    let k = count-yes sameChange (choices x) _ _ j m (agreed (c .before .before) ∙ c .before .if1 .taken) in
-    ap found (sym (c .before .before .before .before .before .change-of .ensures))
-    ∙ sym (rw (c .before .before .before .before .before .before .before .before .before .before .num-faulty .ensures) at (u .4 ∙ voter-wins sameChange (choices x) _ i _ _ (chosen (c .before .before .before .before .before)) l j (c .before .before .before .loop-test .taken) (omega (arith, k, v .1, c .if2 .taken))))
+    let k = count-yes sameChange (choices x) _ _ j m (agreed (c .before .before) ∙ c .before .if1 .taken) in (
+      ap found (sym (c .before .before .before .before .before .change-of .ensures))
+          ∙ sym (rw (c .before .before .before .before .before .before .before .before .before .before .num-faulty .ensures) at (u .4 ∙ voter-wins sameChange (choices x) _ i _ _ (chosen (c .before .before .before .before .before)) l j (c .before .before .before .loop-test .taken) (omega (arith, k, v .1, c .if2 .taken)))),
+      λ w e. told-place i w (length (votesOf x)) e (omega (arith, length-map (votesOf x) (λ v. v .vote .change), l)),
+    )
 
 pub compute-winner-spec : {M : Type 1} → statement M
 compute-winner-spec =

@@ -1,0 +1,4 @@
+pub mod RereadLaws
+pub mod PartLaws
+pub mod WorkLaws
+pub mod TurnLaws

@@ -1,0 +1,4 @@
+pub mod StateLaws
+pub mod OwnVotesLaws
+pub mod ReceivedLaws
+pub mod AskedLaws

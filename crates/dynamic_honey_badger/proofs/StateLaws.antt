@@ -1,0 +1,54 @@
+-- Laws of a node's state: how it starts.
+-- Assumes nothing.
+use mathlib.Core.Bool.{true, false}
+use mathlib.Core.List.{[]}
+use mathlib.Core.Path.{_≡_, refl, sym}
+use Prim.Native.Nat.{ℕ}
+use Rattle.lists.proofs.ListLaws.{false-true}
+use Rattle.bincode.specs.Sizes.{Sizes}
+use Rattle.pub_key_map.specs.declared.PubKeyMap.{PubKeyMap}
+use Rattle.pub_key_map.specs.PubKeyMap.{nodesOf}
+use Rattle.change.specs.declared.ChangeKind.{ChangeKind}
+use Rattle.change.specs.declared.ChangeKind.the-variants as kind
+use Rattle.change.specs.declared.ChangeState.{ChangeState}
+use Rattle.change.specs.declared.Progress.{Progress}
+use Rattle.change.specs.declared.Progress.the-variants as progress
+use Rattle.change.specs.Change.{stateOfProgress, stateOf as progressOf}
+use Rattle.join_plan.specs.JoinPlan.{PlanOf}
+use Rattle.joining.specs.declared.StartOutcome.{StartOutcome}
+use Rattle.joining.specs.declared.StartOutcome.the-variants as start
+use Rattle.joining.specs.Starting.{StartOf, saidStart}
+use Rattle.dynamic_honey_badger.specs.State.{StateOf, keyGenFor, partDue, opened, startedFrom, inProgressMap, joinedBy, joinedWith, joinedFrom}
+
+-- a node starts where its map and parameters are accepted, and not where they are refused
+pub start-said : (id key era : ℕ) (o : StartOutcome) (a : StartOf) → saidStart o (opened id key era (a .keys) (a .params)) ≡ startedFrom id key era (saidStart o a)
+start-said id key era start.Accepted a = refl
+start-said id key era (start.Refused n) a = refl
+
+-- the same of a plan
+pub join-said : (z : Sizes) (id key : ℕ) (o : StartOutcome) (p : PlanOf) → saidStart o (joinedWith z id key p) ≡ joinedFrom z id key (saidStart o p)
+join-said z id key start.Accepted p = refl
+join-said z id key (start.Refused n) p = refl
+
+-- what a plan's change asks: a fresh key generation where a map is in progress, else nothing
+module _ (z : Sizes) (id era : ℕ) (s : StateOf) where
+  pub join-map : (x : ChangeState) → inProgressMap (progressOf x) ≡ true
+      → joinedBy z id era (progressOf x) s ≡ record { state = keyGenFor z (nodesOf (x .change .map)) s; due = partDue (nodesOf (x .change .map)) id era }
+  join-map x = go (x .progress) (x .change .kind) (x .change .map)
+    where
+      go : (p : Progress) (k : ChangeKind) (m : PubKeyMap) → inProgressMap (stateOfProgress p (record { kind = k; map = m })) ≡ true
+          → joinedBy z id era (stateOfProgress p (record { kind = k; map = m })) s ≡ record { state = keyGenFor z (nodesOf m) s; due = partDue (nodesOf m) id era }
+      go progress.InProgress kind.NodeChange m e = refl
+      go progress.InProgress (kind.EncryptionSchedule y) m e = absurd (false-true e)
+      go progress.None k m e = absurd (false-true e)
+      go progress.Complete k m e = absurd (false-true e)
+
+  pub join-other : (x : ChangeState) → inProgressMap (progressOf x) ≡ false → joinedBy z id era (progressOf x) s ≡ record { state = s; due = [] }
+  join-other x = go (x .progress) (x .change .kind) (x .change .map)
+    where
+      go : (p : Progress) (k : ChangeKind) (m : PubKeyMap) → inProgressMap (stateOfProgress p (record { kind = k; map = m })) ≡ false
+          → joinedBy z id era (stateOfProgress p (record { kind = k; map = m })) s ≡ record { state = s; due = [] }
+      go progress.InProgress kind.NodeChange m e = absurd (false-true (sym e))
+      go progress.InProgress (kind.EncryptionSchedule y) m e = refl
+      go progress.None k m e = refl
+      go progress.Complete k m e = refl

@@ -1,0 +1,41 @@
+-- What a host asks a node between batches: `should_propose`, `next_epoch`.
+use Prim.Native.Nat.{ℕ, _+_}
+use mathlib.Core.List.{List, [], _∷_}
+use mathlib.Core.Bool.{Bool, true, false, cond}
+use lib.ListN.{length}
+use lib.Dec.{ltb, eqb}
+use Rattle.bincode.specs.Outcome.{Outcome, done, refused}
+use Rattle.util.specs.MaxFaulty.{maxFaulty}
+use Rattle.key_gen_message.specs.KeyGenMessage.{SignedKeyGenMsgOf}
+use Rattle.votes.specs.Votes.{SignedVoteOf}
+use Rattle.vote_counter.specs.VoteCounter.{pendingVotes}
+use Rattle.dynamic_honey_badger.specs.State.{StateOf, eraOf, nodesIn}
+use Rattle.dynamic_honey_badger.specs.declared.NextEpoch.{NextEpoch}
+use Rattle.dynamic_honey_badger.specs.declared.NextEpoch.the-variants as next
+
+-- row 5: an epoch over 2^64-2
+unfoldable pub row5 : ℕ → Bool
+row5 epoch = ltb 18446744073709551614 epoch
+
+unfoldable pub nextEpoch : StateOf → ℕ → Outcome ℕ
+nextEpoch s inner = cond (row5 (eraOf s + inner)) (refused 5) (done (eraOf s + inner))
+
+unfoldable pub someBy : ℕ → List SignedVoteOf → Bool
+someBy id [] = false
+someBy id (v ∷ vs) = cond (eqb (v .voter) id) true (someBy id vs)
+
+abbrev pub someStored : List SignedKeyGenMsgOf → Bool
+someStored [] = false
+someStored (m ∷ ms) = true
+
+-- not with input given; then with more than f proposals, or a pending vote of the own that is to be committed, or a stored message
+unfoldable pub shouldPropose : StateOf → Bool → ℕ → Bool
+shouldPropose s has-input proposals =
+    cond has-input false
+    (cond (ltb (maxFaulty (length (nodesIn s))) proposals) true
+    (cond (someBy (s .counter .our-id) (pendingVotes (s .counter))) true
+    (someStored (s .store))))
+
+abbrev pub saidNext : NextEpoch → Outcome ℕ
+saidNext (next.Epoch n) = done n
+saidNext (next.Refused n) = refused n

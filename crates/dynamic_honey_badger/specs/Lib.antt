@@ -1,0 +1,4 @@
+pub mod State
+pub mod OwnVotes
+pub mod Received
+pub mod Asked
