@@ -2,3 +2,4 @@ pub mod RereadLaws
 pub mod PartLaws
 pub mod WorkLaws
 pub mod TurnLaws
+pub mod BatchLaws

@@ -10,7 +10,7 @@ use Rattle.lists.proofs.ListLaws.{rest-none, take-padded}
 use Rattle.bincode.specs.Sizes.{base}
 use Rattle.bincode.specs.Items.{foldl}
 use Rattle.change.specs.Change.{ChangeOf}
-use Rattle.change.proofs.ChangeLaws.{held-change}
+use Rattle.dynamic_honey_badger.proofs.ReceivedLaws.{held-message as held-kind}
 use Rattle.votes.specs.Votes as votes
 use Rattle.key_gen_message.specs.KeyGenMessage as key-gen
 use Rattle.internal_contrib.specs.declared.Contrib.{Contrib}
@@ -34,13 +34,6 @@ module _ (xs : List ℕ) (i : ℕ) where
   used-past h = rw (rest-none xs i h)
 
 -- what is held is what was read
-pub held-vote : (v : votes.SignedVoteOf) → votes.signedOf (votes.signedHeld v) ≡ v
-held-vote v = ap (λ (y : ChangeOf). record { vote = record { change = y; era = v .vote .era; num = v .vote .num }; voter = v .voter; sig = v .sig }) (held-change (v .vote .change))
-
-held-kind : (m : key-gen.KeyGenMessageOf) → key-gen.messageOf (key-gen.messageHeld m) ≡ m
-held-kind (key-gen.part p) = ap (λ (y : List ℕ). key-gen.part (record { commit = p .commit; rows = y })) (take-padded (base .rows) 0 (p .rows))
-held-kind (key-gen.ack a) = ap (λ (y : List ℕ). key-gen.ack (record { proposer = a .proposer; values = y })) (take-padded (base .rows) 0 (a .values))
-
 pub held-message : (m : key-gen.SignedKeyGenMsgOf) → key-gen.signedOf (key-gen.signedHeld m) ≡ m
 held-message m = ap (λ (y : key-gen.KeyGenMessageOf). record { era = m .era; id = m .id; message = y; sig = m .sig }) (held-kind (m .message))
 

@@ -33,11 +33,11 @@ pub fault-not-refused : (k : FaultKind) (n : ℕ) → handling.Faulty k ≡ hand
 fault-not-refused k n e = let z : _≡_ {A = ℕ} 0 1 = cc in omega arith
 
 -- a struct that holds what was read stands for it
-held-message : (m : KeyGenMessageOf) → messageOf (messageHeld m) ≡ m
+pub held-message : (m : KeyGenMessageOf) → messageOf (messageHeld m) ≡ m
 held-message (part p) = ap {B = KeyGenMessageOf} (λ (xs : List ℕ). part (record { commit = p .commit; rows = xs })) (take-padded (base .rows) 0 (p .rows))
 held-message (ack a) = ap {B = KeyGenMessageOf} (λ (xs : List ℕ). ack (record { proposer = a .proposer; values = xs })) (take-padded (base .rows) 0 (a .values))
 
-held-vote : (v : SignedVoteOf) → signedOf (signedHeld v) ≡ v
+pub held-vote : (v : SignedVoteOf) → signedOf (signedHeld v) ≡ v
 held-vote v = ap {B = SignedVoteOf} (λ (c : ChangeOf). record { vote = record { change = c; era = v .vote .era; num = v .vote .num }; voter = v .voter; sig = v .sig }) (held-change (v .vote .change))
 
 pub held-content : (m : MessageContent) → contentOf (contentHeld m) ≡ m

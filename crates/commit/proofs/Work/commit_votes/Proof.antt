@@ -10,7 +10,7 @@ use Rattle.votes.specs.Votes.{readSignedVote, signedHeld, signedOf, noSigned}
 use Rattle.votes.specs.declared.ReadSignedVote.{ReadSignedVote}
 use Rattle.commit.specs.Steps.{workOf, committedVote}
 use Rattle.commit.proofs.RereadLaws.{Handling, handle-more, handle-refused, reread-start, reread-end}
-use Rattle.commit.proofs.WorkLaws.{held-vote}
+use Rattle.dynamic_honey_badger.proofs.ReceivedLaws.{held-vote}
 use Rattle.commit.proofs.Work.commit_votes.Statement.{statement}
 use Rattle.commit.proofs.Work.commit_votes.Tie as tie
 

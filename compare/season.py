@@ -1,0 +1,279 @@
+"""Seasons: a log of calls that one replica gets, built step by step against the oracle, whose answers tell what the group's state is.
+
+Each line of a log comes with what must be answered: the oracle's own words, or, for a call that was built to be refused, `refused N`
+with the number of the row that it was built for, or `refused *` for bytes that were damaged at random (some refusal, no number stated)."""
+import random
+import subprocess
+import wire
+
+LAST = 2**64 - 1
+FULL = (1024, 1025)
+
+
+class Oracle:
+    def __init__(self, path):
+        self.p = subprocess.Popen([path, "--share-passes"], stdin=subprocess.PIPE, stdout=subprocess.PIPE,
+                                  stderr=subprocess.DEVNULL, text=True, bufsize=1)
+
+    def ask(self, line):
+        self.p.stdin.write(line + "\n")
+        self.p.stdin.flush()
+        return self.p.stdout.readline().rstrip("\n")
+
+    def close(self):
+        self.p.stdin.close()
+        self.p.wait()
+
+
+class Season:
+    def __init__(self, oracle, seed, small=False):
+        """A small season has few stations, fewer calls, and shows the state now and then only: the sample is made of such."""
+        self.o, self.r, self.small = oracle, random.Random(seed), small
+        self.lines, self.answers = [], []
+        self.last_era = None  # the era in which the own pending vote has the last number
+
+    def calls(self):
+        """How many calls a log has at least."""
+        return 22 if self.small else 60
+
+    # -- lines ---------------------------------------------------------------------------------------------------------------
+    def say(self, line, number=None):
+        """A call; with a number it was built for that row of the table."""
+        a = self.o.ask(line)
+        if number is not None:
+            if a not in ("undefined", "no engine", "bad line") and number != "free":
+                raise SystemExit("the oracle answers a call that was built for row %s: %s -> %s" % (number, line[:300], a[:200]))
+            a = "refused %s" % number if number != "free" else a
+        elif a == "undefined":
+            raise SystemExit("the oracle refuses a call that was built to be accepted: %s" % line[:4000])
+        self.lines.append(line)
+        self.answers.append(a)
+        return a
+
+    def damaged(self, line):
+        """Bytes damaged at random: where the oracle reads them all the same, its answer counts."""
+        a = self.o.ask(line)
+        self.lines.append(line)
+        self.answers.append("refused *" if a == "undefined" else a)
+        return a
+
+    # -- the group's state, as the oracle tells it -----------------------------------------------------------------------------
+    def look(self):
+        shown = not self.small or self.r.random() < 0.1
+        a = (self.say("state") if shown else self.o.ask("state")).split(" ")
+        self.era = int(a[1])
+        self.map = wire.read_map(bytes.fromhex(a[2]))
+        self.votes = {} if a[5] == "-" else {int(v.split(":")[0]): int(v.split(":")[1]) for v in a[5].split(",")}
+        self.candidate = None if a[7] == "-" else wire.read_map(bytes.fromhex(a[7]))
+        self.parts = {} if a[9] == "-" else {int(q.split(":")[0]): q.split(":") for q in a[9].split(",")}
+
+    def start(self, n=None, era=None, own=None):
+        r = self.r
+        n = n or r.choice([1, 2, 3, 3, 4] if self.small else [1, 2, 3, 4, 4, 4, 5, 7, 7, 10, 16])
+        ids = sorted(r.sample(range(1, 40), n))
+        self.keys = {i: 1000 + i for i in range(0, 60)}
+        m = [(i, self.keys[i]) for i in ids]
+        self.own = own if own is not None else (r.choice(ids) if r.random() < 0.85 else r.choice([i for i in range(1, 50) if i not in ids]))
+        self.own_key = self.keys[self.own] if r.random() < 0.95 else r.randrange(1, 2**64)
+        self.params = (r.choice([0, 1, 3, LAST]), r.choice([0, 1]), self.any_schedule())
+        era = era if era is not None else r.choice([0, 0, 1, 5, 1000, 2**40])
+        a = self.say("new %d %d %d %s %s" % (self.own, self.own_key, era, wire.node_map(m).hex(), wire.params(self.params).hex()))
+        assert a == "started", a
+        self.inner = 0
+        self.look()
+
+    def any_schedule(self):
+        r = self.r
+        return r.choice([(0,), (1,), (2, r.choice([0, 1, 3, 2**32 - 1])), (3, r.choice([0, 2, 5]), r.choice([0, 3, 2**32 - 1]))])
+
+    # -- votes and key messages --------------------------------------------------------------------------------------------------
+    def change_wanted(self):
+        """A change that the group could vote for: a node more or less, another key, the same map, or a schedule."""
+        r, m = self.r, dict(self.map)
+        k = r.random()
+        if k < 0.35 and len(m) < 16:
+            i = r.choice([x for x in range(1, 50) if x not in m])
+            m[i] = self.keys[i]
+        elif k < 0.6 and len(m) > 1:
+            del m[r.choice(sorted(m))]
+        elif k < 0.68:
+            m[r.choice(sorted(m))] = r.randrange(1, 2**64)
+        elif k < 0.75:
+            pass
+        else:
+            return ("schedule", self.any_schedule())
+        return ("map", sorted(m.items()))
+
+    def a_vote(self, c, voter, damage=0.0):
+        r = self.r
+        num = self.votes.get(voter, -1) + 1 + (r.random() < 0.1) * r.randrange(5)
+        era, sig = self.era, dict(self.map).get(voter, r.randrange(1, 99))
+        if r.random() < damage:
+            k = r.randrange(4)
+            if k == 0:
+                num = max(0, num - 1 - r.randrange(2))
+            elif k == 1:
+                era = max(0, min(LAST, era + r.choice([-1, 1, 7])))
+            elif k == 2:
+                sig = r.choice([0, 1, sig + 1])
+            else:
+                voter = r.choice([voter, 59, 0])
+        return (c, era, min(num, LAST), voter, sig)
+
+    def a_part(self, i, commit=None, rows=None):
+        n = len(self.candidate)
+        return ("part", 7000 + i if commit is None else commit, [100 + j for j in range(n if rows is None else rows)])
+
+    def an_ack(self, proposer, values=None):
+        n = len(self.candidate)
+        return ("ack", proposer, [500 + j for j in range(n if values is None else values)])
+
+    def key_message(self, i, m, damage=0.0):
+        """Signed by station i under its candidate or current key."""
+        r = self.r
+        sig = dict(self.candidate or []).get(i, dict(self.map).get(i, 1))
+        if i in dict(self.map) and r.random() < 0.3:
+            sig = dict(self.map)[i]
+        era = self.era
+        if r.random() < damage:
+            k = r.randrange(3)
+            if k == 0:
+                era = max(0, min(LAST, era + r.choice([-1, 1])))
+            elif k == 1:
+                sig = r.choice([0, sig + 1])
+            else:
+                i = r.choice([59, 0])
+        return (era, i, m, sig)
+
+    def strays(self, m):
+        """Row 6: right era and signature, key generation running, signer not in the candidate map."""
+        era, i, _, sig = m
+        return (era == self.era and self.candidate is not None and dict(self.map).get(i) == sig and i not in dict(self.candidate))
+
+    # -- batches ---------------------------------------------------------------------------------------------------------------
+    def line(self, cs, verdicts, inner=None, places=FULL, raw=None):
+        return "batch %d %s %s %d %d" % (self.inner if inner is None else inner, (raw if raw is not None else wire.batch(cs)).hex(),
+                                         wire.hexed(bytes(verdicts)), *places)
+
+    def spread(self, messages, votes):
+        """Contributions with these items, ids ascending; proposers need be in no map."""
+        r = self.r
+        ids = sorted(r.sample([i for i, _ in self.map] + [55, 57], r.randrange(1, min(6, len(self.map) + 2))))
+        cs = [(i, bytes(r.randrange(256) for _ in range(r.choice([0, 0, 3, 40]))), [], []) for i in ids]
+        for m in messages:
+            r.choice(cs)[2].append(m)
+        for v in votes:
+            r.choice(cs)[3].append(v)
+        return cs
+
+    def batch(self, messages, votes, verdict=None, number=None):
+        r = self.r
+        if number is None and any(self.strays(m) for m in messages):
+            number = 6
+        cs = self.spread(messages, votes)
+        vs = [(verdict if verdict is not None else (0 if r.random() < 0.9 else r.randrange(4))) for c in cs for _ in c[2]]
+        return self.committed(self.line(cs, vs), number)
+
+    def committed(self, line, number=None):
+        before = self.era
+        a = self.say(line, number)
+        self.look()
+        self.inner = 0 if self.era != before else self.inner + (self.r.random() < 0.9)
+        return a
+
+    def vote_batch(self, c=None, share=None, damage=0.0):
+        """Votes for one change, of enough voters or of few."""
+        r = self.r
+        c = c or self.change_wanted()
+        voters = [i for i, _ in self.map]
+        k = share if share is not None else r.randrange(0, len(voters) + 1)
+        vs = [self.a_vote(c, i, damage) for i in r.sample(voters, min(k, len(voters)))]
+        if r.random() < 0.3:
+            vs += [self.a_vote(self.change_wanted(), r.choice(voters), damage)]
+        if self.empty_wins(c, vs):
+            return
+        self.batch([], vs)
+
+    def empty_wins(self, c, vs):
+        return any(v[0] == ("map", []) for v in vs)
+
+    def key_batch(self, damage=0.0):
+        """Parts of the candidates, then acks on the recorded parts."""
+        r = self.r
+        if self.candidate is None:
+            m = ("part", 5, [1, 2, 3]) if r.random() < 0.5 else ("ack", r.randrange(3), [1])
+            i = r.choice([i for i, _ in self.map])
+            return self.batch([(self.era, i, m, dict(self.map)[i])], [])
+        ids = [i for i, _ in self.candidate]
+        ms = []
+        for k, i in enumerate(ids):
+            if k not in self.parts and r.random() < 0.7:
+                ms.append(self.key_message(i, self.a_part(i), damage))
+        for k in self.parts:
+            for i in ids:
+                if r.random() < 0.6:
+                    ms.append(self.key_message(i, self.an_ack(k), damage))
+        if damage:
+            i = r.choice(ids)
+            ms += [self.key_message(i, self.a_part(i, commit=r.choice([0, 1]))) for _ in range(r.random() < 0.3)]
+            ms += [self.key_message(i, self.a_part(i, rows=r.choice([0, len(ids) + 1]))) for _ in range(r.random() < 0.3)]
+            ms += [self.key_message(i, self.an_ack(r.choice([0, 15, 16, LAST]))) for _ in range(r.random() < 0.3)]
+            ms += [self.key_message(i, self.an_ack(0, values=len(ids) + 1)) for _ in range(r.random() < 0.3)]
+        r.shuffle(ms)
+        ms = [m for m in ms if not self.strays(m)][:300]
+        self.batch(ms, [], verdict=None)
+
+    # -- own votes, messages, queries --------------------------------------------------------------------------------------------
+    def own_vote(self):
+        r = self.r
+        k = r.randrange(3)
+        member = self.own in dict(self.map)
+        number = 11 if member and self.era == self.last_era else None
+        if k == 0:
+            return self.say("vote %s" % wire.change(self.change_wanted()).hex(), number)
+        if k == 1:
+            i = r.choice([i for i in range(1, 50)])
+            full = len(self.map) >= 16 and i not in dict(self.map) and member
+            return self.say("add %d %d" % (i, self.keys[i]), 13 if full else number)
+        return self.say("remove %d" % r.choice([i for i, _ in self.map] + [58]), number)
+
+    def received(self):
+        r = self.r
+        sender = r.choice([i for i, _ in self.map] + ([i for i, _ in self.candidate] if self.candidate else []) + [58])
+        if r.random() < 0.4:
+            v = self.a_vote(self.change_wanted(), r.choice([sender] + [i for i, _ in self.map]), 0.3)
+            return self.say("message %d %s" % (sender, wire.message_vote(v).hex()))
+        n = len(self.candidate) if self.candidate else 3
+        m = ("part", r.randrange(3), [0] * n) if r.random() < 0.5 else ("ack", r.randrange(n + 1), [9] * n)
+        era, i, m, sig = self.key_message(sender, m, 0.25)
+        a = self.say("message %d %s" % (sender, wire.message_key_gen(era, m, sig).hex()), "free")
+        if a == "undefined":
+            self.answers[-1] = "refused 12"
+
+    def returned(self):
+        r = self.r
+        n = len(self.candidate) if self.candidate else 2
+        m = ("part", r.randrange(9), [1] * n) if r.random() < 0.5 else ("ack", r.randrange(n), [2] * n)
+        era = self.era if r.random() < 0.8 else r.choice([max(0, self.era - 1), min(LAST, self.era + 1)])
+        a = self.say("due %s" % wire.message_key_gen(era, m, self.own_key).hex(), "free")
+        if a == "undefined":
+            self.answers[-1] = "refused 12"
+
+    def query(self):
+        r = self.r
+        k = r.randrange(6)
+        if k == 0:
+            self.say("stored %d" % r.choice([0, 1, 2, 5, 127, 128, LAST]))
+        elif k == 1:
+            self.say("pending %d" % r.choice([0, 1, 2, 15, 16, LAST]))
+        elif k == 2:
+            self.say("propose %d %d" % (r.randrange(2), r.choice([0, 1, 2, 3, 6, LAST])))
+        elif k == 3:
+            inner = r.choice([0, 1, self.inner, LAST - 1 - self.era, LAST - self.era])
+            self.say("next %d" % inner, 5 if self.era + inner > LAST - 1 else None)
+        elif k == 4:
+            s = r.choice([(0,), (1,), (2, 1), (2, 3), (2, 0), (3, 2, 3), (3, 0, 0), (3, 0, 4), (3, 2**32 - 1, 1), (3, 2**32 - 2, 1)])
+            period = {0: 1, 1: 1}.get(s[0], sum(s[1:]))
+            self.say("schedule %d %s" % (r.randrange(12), wire.schedule(s).hex()), 14 if period == 0 or period >= 2**32 else None)
+        else:
+            self.say("plan %d %d" % (r.choice([0, 77, LAST]), r.choice([448, 448, 2000])))

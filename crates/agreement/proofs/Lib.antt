@@ -1,0 +1,17 @@
+pub mod FoldLaws
+pub mod StepLaws
+pub mod ReadingLaws
+pub mod CountLaws
+pub mod DecisionLaws
+pub mod OwnCalls
+pub mod Follow
+pub mod Agree
+pub mod KeptLaws
+pub mod Sound
+pub mod Joiner
+pub mod WrittenPlan
+pub mod AllLaws
+pub mod FormedParts
+pub mod FormedLaws
+pub mod RoomLaws
+pub mod Claims

@@ -1,0 +1,2 @@
+pub mod SomeLaws
+pub mod ProcessLaws
