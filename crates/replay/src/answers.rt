@@ -1,0 +1,275 @@
+// The values of answers as text: faults, due items, recipe, votes, parts, and encoded values as bytes.
+use crate::text::put;
+use crate::text::put_comma;
+use crate::text::put_first;
+use crate::text::put_number;
+use change::Change;
+use change::ChangeState;
+use due::DueItem;
+use due::DueKind;
+use due::DueList;
+use fault_log::AckFault;
+use fault_log::FaultKind;
+use fault_log::FaultLog;
+use fault_log::PartFault;
+use key_gen::KeyGen;
+use key_gen::Proposal;
+use params::Params;
+use pub_key_map::PubKeyMap;
+use recipe::Recipe;
+use recipe::RecipeKind;
+use recipe::Share;
+use signed_votes::SignedVotes;
+use votes::SignedVote;
+
+fn put_part_kind(out: &mut [u8], at: usize, k: PartFault) -> usize {
+    match k {
+        PartFault::RowCount => put(out, at, b"SyncKeyGenPart.RowCount"),
+        PartFault::MultipleParts => put(out, at, b"SyncKeyGenPart.MultipleParts"),
+        PartFault::DecryptRow => put(out, at, b"SyncKeyGenPart.DecryptRow"),
+        PartFault::DeserializeRow => put(out, at, b"SyncKeyGenPart.DeserializeRow"),
+        PartFault::RowCommitment => put(out, at, b"SyncKeyGenPart.RowCommitment"),
+    }
+}
+
+fn put_ack_kind(out: &mut [u8], at: usize, k: AckFault) -> usize {
+    match k {
+        AckFault::ValueCount => put(out, at, b"SyncKeyGenAck.ValueCount"),
+        AckFault::MissingPart => put(out, at, b"SyncKeyGenAck.MissingPart"),
+        AckFault::DecryptValue => put(out, at, b"SyncKeyGenAck.DecryptValue"),
+        AckFault::DeserializeValue => put(out, at, b"SyncKeyGenAck.DeserializeValue"),
+        AckFault::ValueCommitment => put(out, at, b"SyncKeyGenAck.ValueCommitment"),
+    }
+}
+
+fn put_kind(out: &mut [u8], at: usize, k: FaultKind) -> usize {
+    match k {
+        FaultKind::InvalidVoteSignature => put(out, at, b"InvalidVoteSignature"),
+        FaultKind::InvalidCommittedVote => put(out, at, b"InvalidCommittedVote"),
+        FaultKind::UnexpectedDhbMessageEra => put(out, at, b"UnexpectedDhbMessageEra"),
+        FaultKind::InvalidKeyGenMessageSignature => put(out, at, b"InvalidKeyGenMessageSignature"),
+        FaultKind::UnexpectedKeyGenMessage => put(out, at, b"UnexpectedKeyGenMessage"),
+        FaultKind::TooManyKeyGenMessages => put(out, at, b"TooManyKeyGenMessages"),
+        FaultKind::InvalidKeyGenMessageEra => put(out, at, b"InvalidKeyGenMessageEra"),
+        FaultKind::UnexpectedKeyGenPart => put(out, at, b"UnexpectedKeyGenPart"),
+        FaultKind::UnexpectedKeyGenAck => put(out, at, b"UnexpectedKeyGenAck"),
+        FaultKind::SyncKeyGenPart(p) => put_part_kind(out, at, p),
+        FaultKind::SyncKeyGenAck(a) => put_ack_kind(out, at, a),
+    }
+}
+
+// A fault as `ID:KIND`.
+pub(crate) fn put_fault(out: &mut [u8], at: usize, id: u32, kind: FaultKind) -> usize {
+    let a = put_number(out, at, id as u64);
+    let b = put(out, a, b":");
+    put_kind(out, b, kind)
+}
+
+// Faults in order; `-` for none.
+pub(crate) fn put_faults(out: &mut [u8], at: usize, log: FaultLog) -> usize {
+    let n = log.len();
+    if n == 0 {
+        return put(out, at, b"-");
+    }
+    let mut m = at;
+    let mut i: usize = 0;
+    while i < n {
+        let f = log.faults[i];
+        let kind = f.kind;
+        m = put_comma(out, m, i);
+        m = put_fault(out, m, f.node_id, kind);
+        i += 1;
+    }
+    m
+}
+
+fn put_due_kind(out: &mut [u8], at: usize, k: DueKind) -> usize {
+    match k {
+        DueKind::Part => put(out, at, b"part"),
+        DueKind::Ack(i) => {
+            let a = put(out, at, b"ack:");
+            put_number(out, a, i as u64)
+        }
+    }
+}
+
+// A due item as `part@ERA` or `ack:INDEX@ERA`.
+fn put_item(out: &mut [u8], at: usize, d: DueItem) -> usize {
+    let kind = d.kind;
+    let a = put_due_kind(out, at, kind);
+    let b = put(out, a, b"@");
+    put_number(out, b, d.era)
+}
+
+// Due items in order; `-` for none.
+pub(crate) fn put_due(out: &mut [u8], at: usize, list: DueList) -> usize {
+    let n = list.len();
+    if n == 0 {
+        return put(out, at, b"-");
+    }
+    let mut m = at;
+    let mut i: usize = 0;
+    while i < n {
+        let d = list.items[i];
+        m = put_comma(out, m, i);
+        m = put_item(out, m, d);
+        i += 1;
+    }
+    m
+}
+
+// A mark before every item but the first.
+fn put_between(out: &mut [u8], at: usize, some: bool, mark: &[u8]) -> usize {
+    if some {
+        return put(out, at, mark);
+    }
+    at
+}
+
+// The places that are marked, ascending, with a plus between two; `-` for none.
+fn put_marked(out: &mut [u8], at: usize, flags: [bool; PubKeyMap::LIMIT]) -> usize {
+    let mut m = at;
+    let mut some = false;
+    let mut i: usize = 0;
+    while i < PubKeyMap::LIMIT {
+        if flags[i] {
+            m = put_between(out, m, some, b"+");
+            m = put_number(out, m, i as u64);
+            some = true;
+        }
+        i += 1;
+    }
+    if some {
+        return m;
+    }
+    put(out, m, b"-")
+}
+
+// A complete proposer, with its first good acknowledgers where there is a share.
+fn put_share(out: &mut [u8], at: usize, i: usize, s: Share, shown: bool) -> usize {
+    let used = s.used;
+    let a = put_number(out, at, i as u64);
+    if shown {
+        let b = put(out, a, b":");
+        return put_marked(out, b, used);
+    }
+    a
+}
+
+// The complete proposers, ascending.
+fn put_shares(out: &mut [u8], at: usize, r: Recipe, shown: bool) -> usize {
+    let mut m = at;
+    let mut some = false;
+    let mut i: usize = 0;
+    while i < PubKeyMap::LIMIT {
+        let s = r.shares[i];
+        if s.complete {
+            m = put_between(out, m, some, b",");
+            m = put_share(out, m, i, s, shown);
+            some = true;
+        }
+        i += 1;
+    }
+    m
+}
+
+// The recipe: a word and the complete proposers.
+pub(crate) fn put_recipe(out: &mut [u8], at: usize, r: Recipe) -> usize {
+    let kind = r.kind;
+    match kind {
+        RecipeKind::Observer => {
+            let a = put(out, at, b"observer ");
+            put_shares(out, a, r, false)
+        }
+        RecipeKind::Share => {
+            let a = put(out, at, b"share ");
+            put_shares(out, a, r, true)
+        }
+        RecipeKind::Missing => {
+            let a = put(out, at, b"missing ");
+            put_shares(out, a, r, false)
+        }
+    }
+}
+
+pub(crate) fn put_map(out: &mut [u8], at: usize, map: PubKeyMap) -> usize {
+    let mut buf = [0u8; 512];
+    let n = pub_key_map::write_map(&mut buf, 0, map);
+    put_first(out, at, &buf, n)
+}
+
+pub(crate) fn put_params(out: &mut [u8], at: usize, p: Params) -> usize {
+    let mut buf = [0u8; 64];
+    let n = params::write_params(&mut buf, 0, p);
+    put_first(out, at, &buf, n)
+}
+
+fn put_change(out: &mut [u8], at: usize, c: Change) -> usize {
+    let mut buf = [0u8; 512];
+    let n = change::write_change(&mut buf, 0, c);
+    put_first(out, at, &buf, n)
+}
+
+pub(crate) fn put_state(out: &mut [u8], at: usize, s: ChangeState) -> usize {
+    let mut buf = [0u8; 512];
+    let n = change::write_state(&mut buf, 0, s);
+    put_first(out, at, &buf, n)
+}
+
+// A committed vote as `VOTER:NUMBER:CHANGE`.
+fn put_vote(out: &mut [u8], at: usize, x: SignedVote) -> usize {
+    let vote = x.vote;
+    let change = vote.change;
+    let a = put_number(out, at, x.voter as u64);
+    let b = put(out, a, b":");
+    let c = put_number(out, b, vote.num);
+    let d = put(out, c, b":");
+    put_change(out, d, change)
+}
+
+// Committed votes by ascending voter; `-` for none.
+pub(crate) fn put_votes(out: &mut [u8], at: usize, vs: SignedVotes) -> usize {
+    let n = vs.len();
+    if n == 0 {
+        return put(out, at, b"-");
+    }
+    let mut m = at;
+    let mut i: usize = 0;
+    while i < n {
+        let x = vs.votes[i];
+        m = put_comma(out, m, i);
+        m = put_vote(out, m, x);
+        i += 1;
+    }
+    m
+}
+
+// A recorded part as `INDEX:COMMITMENT:A+A+A`.
+fn put_part(out: &mut [u8], at: usize, i: usize, p: Proposal) -> usize {
+    let acks = p.acks;
+    let a = put_number(out, at, i as u64);
+    let b = put(out, a, b":");
+    let c = put_number(out, b, p.commit);
+    let d = put(out, c, b":");
+    put_marked(out, d, acks)
+}
+
+// Recorded parts by ascending proposer; `-` for none.
+pub(crate) fn put_parts(out: &mut [u8], at: usize, g: KeyGen) -> usize {
+    let mut m = at;
+    let mut some = false;
+    let mut i: usize = 0;
+    while i < PubKeyMap::LIMIT {
+        let p = g.proposals[i];
+        if p.recorded {
+            m = put_between(out, m, some, b",");
+            m = put_part(out, m, i, p);
+            some = true;
+        }
+        i += 1;
+    }
+    if some {
+        return m;
+    }
+    put(out, m, b"-")
+}
