@@ -78,16 +78,6 @@ module _ {A : Type 0} (p : A → Bool) where
   filter-none [] ps = refl
   filter-none (x ∷ xs) ps = rw (ps .0) (filter-none xs (ps .1))
 
-  -- no more are left than there were
-  pub filter-length : (xs : List A) → length (filter p xs) ≤ length xs
-  unfolding filter
-  filter-length [] = omega arith
-  filter-length (x ∷ xs) = go (p x) (filter-length xs)
-    where
-      go : (b : Bool) → length (filter p xs) ≤ length xs → length (cond b (x ∷ filter p xs) (filter p xs)) ≤ suc (length xs)
-      go true h = omega arith
-      go false h = omega arith
-
 module _ {A : Type 0} (key : A → ℕ) where
   -- an element with a new key makes a list longer by one, one with a key that is there does not
   pub insert-length : (a : A) (xs : List A) → (hasKey key (key a) xs ≡ true → length (insert key a xs) ≡ length xs) × (hasKey key (key a) xs ≡ false → length (insert key a xs) ≡ length xs + 1)

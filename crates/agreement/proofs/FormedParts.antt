@@ -33,7 +33,8 @@ use Rattle.dynamic_honey_badger.specs.State.{freshKeyGen}
 use Rattle.commit.specs.Steps.{handledBy}
 use Rattle.agreement.specs.Formed.{MapFormed, VotesFormed, PartFormed, KeyGenFormed}
 use Rattle.agreement.proofs.KeptLaws.{all-insert, all-within}
-use Rattle.agreement.proofs.AllLaws.{all-lookup, all-filter, all-set, all-replicate, all-getD, filter-length, within-length, ascends-filter}
+use Rattle.lists.proofs.FilterLaws.{filter-length}
+use Rattle.agreement.proofs.AllLaws.{all-lookup, all-filter, all-set, all-replicate, all-getD, within-length, ascends-filter}
 
 -- a map's nodes ascend, and each has an id and a key that fit
 abbrev pub NodeFits : Node → Type 0

@@ -12,6 +12,9 @@ pub mod Joiner
 pub mod WrittenPlan
 pub mod AllLaws
 pub mod FormedParts
+pub mod FormedChanges
+pub mod FormedOwn
+pub mod FormedBatch
 pub mod FormedLaws
 pub mod RoomLaws
 pub mod Claims

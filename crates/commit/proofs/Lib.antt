@@ -1,4 +1,3 @@
-pub mod RereadLaws
 pub mod PartLaws
 pub mod WorkLaws
 pub mod TurnLaws

@@ -6,14 +6,14 @@ use mathlib.Core.List.{List}
 use native.Mathlib.Omega.{arith}
 use lib.Dec.{ltb}
 use lib.ListN.{length}
-use Rattle.bincode.specs.Read.{Read, value, refuse, whole}
-use Rattle.bincode.specs.Numbers.{readNum, fixed}
-use Rattle.bincode.specs.Items.{items, counted, many}
+use Rattle.bincode.specs.Read.{value, refuse, whole}
+use Rattle.bincode.specs.Numbers.{readNum}
+use Rattle.bincode.specs.Items.{items, many}
 use Rattle.bincode.specs.Sizes.{Sizes}
 use Rattle.bincode.specs.Stands.{Bytes}
 use Rattle.bincode.proofs.NumberLaws.{read-value}
 use Rattle.bincode.proofs.ReadLaws.{clash, same-next, same-value, bind-value, cond-value}
-use Rattle.bincode.proofs.ItemLaws.{length-items}
+use Rattle.bincode.proofs.RereadLaws.{counted-count, counted-items}
 use Rattle.votes.specs.Votes.{SignedVoteOf, readSignedVote}
 use Rattle.key_gen_message.specs.KeyGenMessage.{SignedKeyGenMsgOf, readSignedKeyGenMsg}
 use Rattle.internal_contrib.specs.declared.Budget.{Budget}
@@ -21,22 +21,6 @@ use Rattle.internal_contrib.specs.declared.Contrib.{Contrib}
 use Rattle.internal_contrib.specs.InternalContrib.{ContribOf, readUser, readMessages, readVotes, readContrib, readContribs, readBatch, spending, opening, userBytes, messagesBytes}
 use Rattle.internal_contrib.specs.Places.{placed, spent}
 use Rattle.internal_contrib.proofs.ContribCodes.{user-codes, messages-codes}
-
--- a counted run that was read is a count, and as many items behind it
-module _ {S A : Type 0} (rd : S → ℕ → Read A) (next : S → A → S) (s : List ℕ) (limit : ℕ) (st : S) (at : ℕ) (xs : List A) (c : ℕ) where
-  pub counted-count : counted rd next fixed s limit st at ≡ value xs c → (n : ℕ) × (d : ℕ) × (readNum 8 s at ≡ value n d) × (items rd next n st d ≡ value xs c)
-  unfolding counted
-  counted-count e =
-      let p = bind-value (readNum 8 s at) _ e in
-      (p .0, p .1, p .2, cond-value (items rd next (p .0) st (p .1)) (ltb limit (p .0)) 3 (p .3) .1)
-
-  -- the items stand eight bytes behind the run's start, within the bytes
-  pub counted-items : counted rd next fixed s limit st at ≡ value xs c → (items rd next (length xs) st (at + 8) ≡ value xs c) × (at + 8 ≤ length s)
-  counted-items e =
-      let p = counted-count e in
-      let v = read-value 8 s at (p .0) (p .1) (p .2) in
-      let l : length xs ≡ p .0 = length-items rd next (p .0) st (p .1) xs c (p .3) in
-      ((λ t. items rd next (l t) st (sym (v .2) t)) ∙ p .3, v .0)
 
 -- the fields of a contribution that was read, one behind the other
 module _ (z : Sizes) (s : List ℕ) (b : Budget) (at : ℕ) (x : ContribOf) (c : ℕ) (e : readContrib z s b at ≡ value x c) where

@@ -1,16 +1,14 @@
 -- Laws of a batch that is being handled: verdicts, and what is held of a vote and of a message.
 -- Assumes nothing.
 use Prim.Native.Nat.{ℕ, _+_, _≤_, _<_}
-use mathlib.Core.Path.{_≡_, ap, _∙_}
+use mathlib.Core.Path.{_≡_, _∙_}
 use mathlib.Core.List.{List}
 use native.Mathlib.Numerals.{add-one}
 use lib.ListN.{length, drop, getD}
 use lib.Seq.{drop-cons}
-use Rattle.lists.proofs.ListLaws.{rest-none, take-padded}
+use Rattle.lists.proofs.ListLaws.{rest-none}
 use Rattle.bincode.specs.Sizes.{base}
 use Rattle.bincode.specs.Items.{foldl}
-use Rattle.change.specs.Change.{ChangeOf}
-use Rattle.dynamic_honey_badger.proofs.ReceivedLaws.{held-message as held-kind}
 use Rattle.votes.specs.Votes as votes
 use Rattle.key_gen_message.specs.KeyGenMessage as key-gen
 use Rattle.internal_contrib.specs.declared.Contrib.{Contrib}
@@ -32,10 +30,6 @@ module _ (xs : List ℕ) (i : ℕ) where
 
   pub used-past : length xs ≤ i → drop i xs ≡ otherVerdicts (drop i xs)
   used-past h = rw (rest-none xs i h)
-
--- what is held is what was read
-pub held-message : (m : key-gen.SignedKeyGenMsgOf) → key-gen.signedOf (key-gen.signedHeld m) ≡ m
-held-message m = ap (λ (y : key-gen.KeyGenMessageOf). record { era = m .era; id = m .id; message = y; sig = m .sig }) (held-kind (m .message))
 
 -- a contribution is handled where its votes are, and then its messages
 pub contrib-handled : (w u r : WorkOf) (k : Contrib) (at : ℕ) (x : ContribOf) → k ≡ placed at x → u ≡ foldl (committedVote base (k .id)) w (x .votes) → r ≡ foldl (committedMessage base (k .id)) u (x .messages)

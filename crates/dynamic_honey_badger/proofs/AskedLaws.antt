@@ -1,7 +1,7 @@
 -- Laws of what a host asks between batches.
 -- Assumes nothing.
 use borrow.Author.Tests.{lt-ltb, le-ltb, eq-eqb, ne-eqb}
-use mathlib.Core.Bool.{Bool, true, false, cond}
+use mathlib.Core.Bool.{Bool, true, false}
 use mathlib.Core.List.{List, [], _∷_}
 use mathlib.Core.Path.{_≡_, refl, ap}
 use Prim.Native.Nat.{ℕ, zero, suc, _+_, _≤_, _<_}
@@ -9,8 +9,9 @@ use native.Mathlib.Numerals.{add-one}
 use native.Mathlib.Omega.{arith}
 use lib.Dec.{ltb}
 use lib.ListN.{length, drop}
-use Rattle.lists.specs.Lists.{found, nothing, filter}
+use Rattle.lists.specs.Lists.{found, nothing}
 use Rattle.lists.proofs.ListLaws.{rest-none}
+use Rattle.lists.proofs.FilterLaws.{filter-length}
 use Rattle.util.specs.MaxFaulty.{maxFaulty}
 use Rattle.votes.specs.Votes.{SignedVoteOf}
 use Rattle.vote_counter.specs.Answers.{pendingAt}
@@ -18,16 +19,6 @@ use Rattle.vote_counter.specs.VoteCounter.{CounterOf, newer, pendingVotes}
 use Rattle.key_gen_message.specs.KeyGenMessage.{SignedKeyGenMsgOf}
 use Rattle.dynamic_honey_badger.specs.Asked.{someBy, someStored, shouldPropose}
 use Rattle.dynamic_honey_badger.specs.State.{StateOf, nodesIn}
-
--- a filter keeps at most what was there
-filter-length : {A : Type 0} (p : A → Bool) (xs : List A) → length (filter p xs) ≤ length xs
-unfolding filter
-filter-length p [] = omega arith
-filter-length {A} p (x ∷ xs) = go (p x) (filter-length p xs)
-  where
-    go : (b : Bool) → length (filter p xs) ≤ length xs → length (cond b (x ∷ filter p xs) (filter p xs)) ≤ suc (length xs)
-    go true h = omega arith
-    go false h = omega arith
 
 -- no more votes are handed out than are pending
 pub pending-few : (c : CounterOf) → length (pendingVotes c) ≤ length (c .pending)

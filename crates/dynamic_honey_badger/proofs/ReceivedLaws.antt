@@ -7,18 +7,16 @@ use mathlib.Core.Path.{_≡_, sym, ap, _∙_}
 use Prim.Native.Nat.{ℕ, _+_, _≤_, _<_}
 use native.Mathlib.Omega.{arith}
 use Rattle.lists.specs.Lists.{found, nothing}
-use Rattle.lists.proofs.ListLaws.{take-padded}
 use Rattle.bincode.specs.Outcome.{Outcome}
 use Rattle.bincode.specs.Read.{value, refuse, whole}
-use Rattle.bincode.specs.Sizes.{Sizes, base}
+use Rattle.bincode.specs.Sizes.{Sizes}
 use Rattle.fault_log.specs.declared.FaultKind.{FaultKind}
 use Rattle.fault_log.specs.declared.FaultKind.the-variants.{UnexpectedDhbMessageEra, InvalidKeyGenMessageSignature, UnexpectedKeyGenMessage, TooManyKeyGenMessages}
-use Rattle.change.specs.Change.{ChangeOf}
-use Rattle.change.proofs.ChangeLaws.{held-change}
-use Rattle.votes.specs.Votes.{SignedVoteOf, signedOf, signedHeld}
+use Rattle.votes.proofs.VoteLaws.{held-vote}
 use Rattle.key_gen.specs.KeyGen.{nodeCount}
 use Rattle.key_gen_state.specs.KeyGenState.{KeyGenStateOf, CountedOf, countMessages}
-use Rattle.key_gen_message.specs.KeyGenMessage.{KeyGenMessageOf, part, ack, messageOf, messageHeld, SignedKeyGenMsgOf}
+use Rattle.key_gen_message.specs.KeyGenMessage.{KeyGenMessageOf, SignedKeyGenMsgOf}
+use Rattle.key_gen_message.proofs.MessageLaws.{held-message}
 use Rattle.message_store.specs.MessageStore.{pushed}
 use Rattle.message.specs.Message.{MessageContent, keyGen, signedVote, contentOf, contentHeld, readMessage}
 use Rattle.dynamic_honey_badger.specs.declared.Handling.the-variants as handling
@@ -33,13 +31,6 @@ pub fault-not-refused : (k : FaultKind) (n : ℕ) → handling.Faulty k ≡ hand
 fault-not-refused k n e = let z : _≡_ {A = ℕ} 0 1 = cc in omega arith
 
 -- a struct that holds what was read stands for it
-pub held-message : (m : KeyGenMessageOf) → messageOf (messageHeld m) ≡ m
-held-message (part p) = ap {B = KeyGenMessageOf} (λ (xs : List ℕ). part (record { commit = p .commit; rows = xs })) (take-padded (base .rows) 0 (p .rows))
-held-message (ack a) = ap {B = KeyGenMessageOf} (λ (xs : List ℕ). ack (record { proposer = a .proposer; values = xs })) (take-padded (base .rows) 0 (a .values))
-
-pub held-vote : (v : SignedVoteOf) → signedOf (signedHeld v) ≡ v
-held-vote v = ap {B = SignedVoteOf} (λ (c : ChangeOf). record { vote = record { change = c; era = v .vote .era; num = v .vote .num }; voter = v .voter; sig = v .sig }) (held-change (v .vote .change))
-
 pub held-content : (m : MessageContent) → contentOf (contentHeld m) ≡ m
 held-content (keyGen era m sig) = ap {B = MessageContent} (λ (x : KeyGenMessageOf). keyGen era x sig) (held-message m)
 held-content (signedVote v) = ap signedVote (held-vote v)

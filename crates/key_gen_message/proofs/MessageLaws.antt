@@ -1,21 +1,30 @@
--- Laws of key-generation messages: their lengths in bytes, and equality.
+-- Laws of key-generation messages: what a struct holds, lengths in bytes, and equality.
 -- Assumes nothing.
 use Prim.Native.Nat.{ℕ, _+_}
-use mathlib.Core.Path.{_≡_, refl}
+use mathlib.Core.Path.{_≡_, refl, ap}
 use mathlib.Core.List.{List}
 use mathlib.Core.Bool.{true}
 use native.Mathlib.Omega.{arith}
 use lib.Dec.{eqb}
 use lib.ListN.{length, length-append}
 use borrow.Author.Tests.{eq-eqb, eqb-true}
+use Rattle.bincode.specs.Sizes.{base}
 use Rattle.bincode.proofs.NumberLaws.{length-bytesOf}
-use Rattle.lists.proofs.ListLaws.{false-true, and-both}
+use Rattle.lists.proofs.ListLaws.{false-true, and-both, take-padded}
 use Rattle.sync_key_gen.specs.declared.Handles.{Handles}
 use Rattle.sync_key_gen.specs.SyncKeyGen.{handlesOf, handlesBytes, sameHandles}
 use Rattle.sync_key_gen.proofs.KeyGenLaws.{handles-true, handles-refl}
 use Rattle.key_gen_message.specs.declared.KeyGenKind.{KeyGenKind}
 use Rattle.key_gen_message.specs.declared.KeyGenKind.the-variants.{Part, Ack}
-use Rattle.key_gen_message.specs.KeyGenMessage.{KeyGenMessageOf, part, ack, SignedKeyGenMsgOf, messageOfKind, sameHeaded, sameMessage, sameSigned, taggedBytes, messageBytes, signedBytes}
+use Rattle.key_gen_message.specs.KeyGenMessage.{KeyGenMessageOf, part, ack, messageOf, messageHeld, SignedKeyGenMsgOf, signedOf, signedHeld, messageOfKind, sameHeaded, sameMessage, sameSigned, taggedBytes, messageBytes, signedBytes}
+
+-- a struct that holds what was read stands for it
+pub held-message : (m : KeyGenMessageOf) → messageOf (messageHeld m) ≡ m
+held-message (part p) = ap {B = KeyGenMessageOf} (λ (xs : List ℕ). part (record { commit = p .commit; rows = xs })) (take-padded (base .rows) 0 (p .rows))
+held-message (ack a) = ap {B = KeyGenMessageOf} (λ (xs : List ℕ). ack (record { proposer = a .proposer; values = xs })) (take-padded (base .rows) 0 (a .values))
+
+pub held-signed : (m : SignedKeyGenMsgOf) → signedOf (signedHeld m) ≡ m
+held-signed m = ap (λ (y : KeyGenMessageOf). record { era = m .era; id = m .id; message = y; sig = m .sig }) (held-message (m .message))
 
 -- the rows or values of a message
 abbrev pub handlesIn : KeyGenMessageOf → List ℕ

@@ -1,8 +1,11 @@
 -- Laws of lists that a test filters.
 -- Assumes nothing.
+use Prim.Native.Nat.{suc, _≤_}
 use mathlib.Core.Path.{_≡_, refl, ap}
 use mathlib.Core.List.{List, [], _∷_, _++_, map}
 use mathlib.Core.Bool.{Bool, true, false, cond}
+use native.Mathlib.Omega.{arith}
+use lib.ListN.{length}
 use Rattle.lists.specs.Lists.{filter}
 
 module _ {A : Type 0} (p : A → Bool) where
@@ -15,6 +18,16 @@ module _ {A : Type 0} (p : A → Bool) where
       go : (b : Bool) → filter p (xs ++ ys) ≡ filter p xs ++ filter p ys → cond b (x ∷ filter p (xs ++ ys)) (filter p (xs ++ ys)) ≡ cond b (x ∷ filter p xs) (filter p xs) ++ filter p ys
       go true e = ap (λ (zs : List A). x ∷ zs) e
       go false e = e
+
+  -- no more are left than there were
+  pub filter-length : (xs : List A) → length (filter p xs) ≤ length xs
+  unfolding filter
+  filter-length [] = omega arith
+  filter-length (x ∷ xs) = go (p x) (filter-length xs)
+    where
+      go : (b : Bool) → length (filter p xs) ≤ length xs → length (cond b (x ∷ filter p xs) (filter p xs)) ≤ suc (length xs)
+      go true h = omega arith
+      go false h = omega arith
 
 -- filtered by what the elements stand for
 module _ {A B : Type 0} (f : A → B) (p : B → Bool) where

@@ -10,7 +10,7 @@ use lib.Seq.{drop-cons}
 use Rattle.lists.proofs.ListLaws.{rest-none}
 use Rattle.bincode.specs.Read.{Read, value}
 use Rattle.bincode.specs.Items.{items, foldl}
-use Rattle.commit.proofs.RereadLaws.{Rereading, reread-end}
+use Rattle.bincode.proofs.RereadLaws.{Rereading, reread-end}
 use Rattle.process_output.specs.Refusals.{some}
 
 module _ {A : Type 0} (p : A → Bool) where

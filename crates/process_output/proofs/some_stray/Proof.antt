@@ -11,8 +11,8 @@ use Rattle.key_gen_message.specs.KeyGenMessage.{readSignedKeyGenMsg, signedHeld
 use Rattle.key_gen_message.specs.declared.ReadSigned.{ReadSigned}
 use Rattle.key_gen_state.specs.KeyGenState.{stateOf}
 use Rattle.dynamic_honey_badger.specs.State.{candidateNodes}
-use Rattle.commit.proofs.RereadLaws.{Handling, handle-more, handle-refused, reread-start}
-use Rattle.commit.proofs.WorkLaws.{held-message}
+use Rattle.bincode.proofs.RereadLaws.{Handling, handle-more, handle-refused, reread-start}
+use Rattle.key_gen_message.proofs.MessageLaws.{held-signed}
 use Rattle.process_output.specs.Refusals.{isStray}
 use Rattle.process_output.proofs.SomeLaws.{seen, some-met, some-none}
 use Rattle.process_output.proofs.some_stray.Statement.{statement}
@@ -48,7 +48,7 @@ judged c b e =
     let a = c .before .before .before .before .before .before .before .before .before .args in
     let r = c .before .before .before .before .before .read-signed .ensures in
     handle-more (readSignedKeyGenMsg base _) (seen (isStray (a .era) (nodesOf (a .map)) (candidateNodes (stateOf (a .state))))) _ _ _ _ _ _ (c .before .before .before .before .before .before .before .loop .inv) (c .before .before .before .before .before .before .loop-test .taken) _ (ap (λ (x : ReadSigned). x .step) r)
-    signedHeld signedOf held-message (signedHeld noSigned) (c .before .before .before .before .before .read-signed .result .signed) (ap (λ (x : ReadSigned). x .signed) r) _ (c .before .before .before .step .given .1) b (sym e ∙ c .is-stray .ensures)
+    signedHeld signedOf held-signed (signedHeld noSigned) (c .before .before .before .before .before .read-signed .result .signed) (ap (λ (x : ReadSigned). x .signed) r) _ (c .before .before .before .step .given .1) b (sym e ∙ c .is-stray .ensures)
 
 is-stray-requires : tie.Need-is-stray-requires Inv-loop μ-loop
 is-stray-requires c κs = search needs

@@ -12,7 +12,7 @@ use Rattle.internal_contrib.specs.InternalContrib.{ContribOf, readContrib, spen
 use Rattle.internal_contrib.specs.Places.{placed, saidContrib}
 use Rattle.commit.specs.Steps.{workOf, committedContrib}
 use Rattle.commit.proofs.PartLaws.{batch-counted, batch-items, spent-placed}
-use Rattle.commit.proofs.RereadLaws.{Rereading, reread-start, reread-more, reread-refused, reread-end}
+use Rattle.bincode.proofs.RereadLaws.{Rereading, reread-start, reread-more, reread-refused, reread-end}
 use Rattle.commit.proofs.Work.commit_batch.Statement.{statement}
 use Rattle.commit.proofs.Work.commit_batch.Tie as tie
 

@@ -8,8 +8,8 @@ use Rattle.bincode.specs.Sizes.{base}
 use Rattle.key_gen_message.specs.KeyGenMessage.{readSignedKeyGenMsg, signedHeld, signedOf, noSigned}
 use Rattle.key_gen_message.specs.declared.ReadSigned.{ReadSigned}
 use Rattle.commit.specs.Steps.{workOf, committedMessage}
-use Rattle.commit.proofs.RereadLaws.{Handling, handle-more, handle-refused, reread-start, reread-end}
-use Rattle.commit.proofs.WorkLaws.{held-message}
+use Rattle.bincode.proofs.RereadLaws.{Handling, handle-more, handle-refused, reread-start, reread-end}
+use Rattle.key_gen_message.proofs.MessageLaws.{held-signed}
 use Rattle.commit.proofs.Work.commit_messages.Statement.{statement}
 use Rattle.commit.proofs.Work.commit_messages.Tie as tie
 
@@ -47,7 +47,7 @@ loop-again : tie.Need-loop-again Inv-loop μ-loop
 loop-again c =
     let r = c .before .before .before .before .before .read-signed .ensures in
     handle-more (readSignedKeyGenMsg base _) (committedMessage base _) _ _ _ _ _ _ (c .before .before .before .before .before .before .before .loop .inv) (c .before .before .before .before .before .before .loop-test .taken) _ (ap (λ (x : ReadSigned). x .step) r)
-    signedHeld signedOf held-message (signedHeld noSigned) (c .before .before .before .before .before .read-signed .result .signed) (ap (λ (x : ReadSigned). x .signed) r) _ (c .before .before .before .step .given .1) _ (c .commit-message .ensures)
+    signedHeld signedOf held-signed (signedHeld noSigned) (c .before .before .before .before .before .read-signed .result .signed) (ap (λ (x : ReadSigned). x .signed) r) _ (c .before .before .before .step .given .1) _ (c .commit-message .ensures)
 
 returns-2 : tie.Need-returns-2 Inv-loop μ-loop
 returns-2 c ms d e = reread-end (plain (readSignedKeyGenMsg base _)) stay (committedMessage base _) _ tt _ _ _ tt _ _ (c .before .loop .inv) (c .loop-test .left) ms d e

@@ -1,17 +1,37 @@
--- Items of an accepted run that a loop reads again and handles one by one: the loop comes to the fold over the run.
+-- The items of an accepted run stand behind its count. A loop that reads them again and handles them one by one comes to the fold over the run.
 -- Assumes nothing.
 use Prim.Native.Nat.{ℕ, suc, _+_, _-_, _≤_, _<_}
 use mathlib.Core.Path.{_≡_, refl, sym, ap, _∙_}
 use mathlib.Core.List.{List, []}
 use native.Mathlib.Omega.{arith}
 use native.Mathlib.Nat.{sub-zero}
+use lib.Dec.{ltb}
+use lib.ListN.{length}
 use Rattle.bincode.specs.Read.{Read, value, refuse}
-use Rattle.bincode.specs.Items.{items, plain, stay, many, foldl}
+use Rattle.bincode.specs.Numbers.{readNum, fixed}
+use Rattle.bincode.specs.Items.{items, counted, plain, stay, many, foldl}
 use Rattle.bincode.specs.Answer.{stepOf, heldOf}
 use Rattle.bincode.specs.declared.Step.{Step}
 use Rattle.bincode.specs.declared.Step.the-variants.{Next, Refused}
-use Rattle.bincode.proofs.ReadLaws.{clash, same-next, same-value, held-next, step-refused}
-use Rattle.bincode.proofs.ItemLaws.{uncons}
+use Rattle.bincode.proofs.NumberLaws.{read-value}
+use Rattle.bincode.proofs.ReadLaws.{clash, same-next, same-value, held-next, step-refused, bind-value, cond-value}
+use Rattle.bincode.proofs.ItemLaws.{uncons, length-items}
+
+-- a counted run that was read is a count, and as many items behind it
+module _ {S A : Type 0} (rd : S → ℕ → Read A) (next : S → A → S) (s : List ℕ) (limit : ℕ) (st : S) (at : ℕ) (xs : List A) (c : ℕ) where
+  pub counted-count : counted rd next fixed s limit st at ≡ value xs c → (n : ℕ) × (d : ℕ) × (readNum 8 s at ≡ value n d) × (items rd next n st d ≡ value xs c)
+  unfolding counted
+  counted-count e =
+      let p = bind-value (readNum 8 s at) _ e in
+      (p .0, p .1, p .2, cond-value (items rd next (p .0) st (p .1)) (ltb limit (p .0)) 3 (p .3) .1)
+
+  -- the items stand eight bytes behind the run's start, within the bytes
+  pub counted-items : counted rd next fixed s limit st at ≡ value xs c → (items rd next (length xs) st (at + 8) ≡ value xs c) × (at + 8 ≤ length s)
+  counted-items e =
+      let p = counted-count e in
+      let v = read-value 8 s at (p .0) (p .1) (p .2) in
+      let l : length xs ≡ p .0 = length-items rd next (p .0) st (p .1) xs c (p .3) in
+      ((λ t. items rd next (l t) st (sym (v .2) t)) ∙ p .3, v .0)
 
 module _ {S A B : Type 0} (rd : S → ℕ → Read A) (next : S → A → S) (f : B → A → B) where
   module _ (n : ℕ) (st₀ : S) (at₀ : ℕ) (b₀ : B) where

@@ -1,0 +1,210 @@
+-- A batch call leaves a formed state formed.
+-- Assumes nothing.
+use Prim.Native.Nat.{ℕ, _+_, _^_, _<_}
+use mathlib.Core.Path.{_≡_, refl, sym, ap, _∙_}
+use mathlib.Core.List.{List, [], _∷_, map}
+use mathlib.Core.Bool.{Bool, true, false, cond}
+use native.Mathlib.Omega.{arith}
+use lib.Dec.{ltb, eqb}
+use lib.ListN.{length}
+use borrow.Author.Tests.{ltb-false}
+use Rattle.lists.specs.Lists.{Found, found, nothing}
+use Rattle.lists.proofs.ListLaws.{false-true}
+use Rattle.bincode.specs.Read.{Read, value, refuse}
+use Rattle.bincode.specs.Sizes.{Sizes}
+use Rattle.bincode.specs.Items.{foldl}
+use Rattle.bincode.specs.Stands.{Bytes, Each, All}
+use Rattle.pub_key_map.specs.declared.Node.{Node}
+use Rattle.pub_key_map.specs.PubKeyMap.{MapOk}
+use Rattle.network_info.specs.NetworkInfo.{keyOf}
+use Rattle.util.specs.MaxFaulty.{maxFaulty}
+use Rattle.fault_log.specs.declared.FaultKind.the-variants.{InvalidCommittedVote, InvalidKeyGenMessageSignature, InvalidKeyGenMessageEra}
+use Rattle.honey_badger.specs.declared.EncryptionSchedule.{EncryptionSchedule}
+use Rattle.params.specs.Params.{ParamsOk}
+use Rattle.change.specs.Change.{ChangeOf, nodeChange, encryptionSchedule, inProgress, sameChange, ChangeOk}
+use Rattle.votes.specs.Votes.{SignedVoteOf, SignedVoteOk}
+use Rattle.winner.specs.Winner.{winner}
+use Rattle.vote_counter.specs.VoteCounter as counter
+use Rattle.vote_counter.specs.VoteCounter.{obsolete, isKey, validVote, committedEffect, afterCommitted, addCommitted, computeWinner}
+use Rattle.key_gen_state.specs.KeyGenState.{KeyGenStateOf, readyState}
+use Rattle.key_gen_message.specs.KeyGenMessage.{SignedKeyGenMsgOf}
+use Rattle.message_store.specs.MessageStore.{isOther, without}
+use Rattle.joining.specs.Starting.{isEmpty}
+use Rattle.internal_contrib.specs.declared.Budget.{Budget}
+use Rattle.internal_contrib.specs.InternalContrib.{ContribOf, readBatch, spending, opening, ContribOk}
+use Rattle.internal_contrib.proofs.ContribCodes.{batch-one-encoding}
+use Rattle.dynamic_honey_badger.specs.Asked.{row5}
+use Rattle.dynamic_honey_badger.specs.State.{StateOf, eraOf, nodesIn, withKeyGen, withStore, withParams, candidateNodes, validUnder, newEra, freshKeyGen, keyGenFor, partDue}
+use Rattle.dynamic_honey_badger.specs.Received.{quiet, fault}
+use Rattle.commit.specs.Steps as steps
+use Rattle.commit.specs.Steps.{WorkOf, withState, votedAs as countedAs, committedVote, Told, owed, blamed-proposer, blamed-signer, MessageDoneOf, doneAs, byKeyGen, messageDone, applied, firstVerdict, judged, committedMessage, committedContrib, begun, committed}
+use Rattle.decision.specs.Decision.{Decided, decidedAs, completedBy, isCandidate, mapWins, withSchedule, scheduleWins, electedBy, decide, isEmptyMap, emptyWins}
+use Rattle.process_output.specs.Refusals.{batchRow1, batchRow4, batchRow6, batchRow7}
+use Rattle.process_output.specs.Process.{BatchCall, ProcessedOf, denied, finished, processedContribs, processedRead, processed}
+use Rattle.agreement.specs.Formed.{MapFormed, RunningFormed, Formed}
+use Rattle.agreement.proofs.KeptLaws.{all-any}
+use Rattle.agreement.proofs.Sound.{FoundOk, winner-ok, all-map}
+use Rattle.lists.proofs.FilterLaws.{filter-length}
+use Rattle.agreement.proofs.AllLaws.{all-filter, all-then, fold-keeps}
+use Rattle.agreement.proofs.FormedParts.{signer-member, vote-more, fresh-formed, handled-formed}
+use Rattle.agreement.proofs.FormedChanges.{with-committed, with-key-gen, with-params, with-store, new-era-formed}
+
+-- steps 2 to 5 of a batch: the state stays formed, and the era is the same
+module _ (z : Sizes) (era : ℕ) where
+  abbrev Working : WorkOf → Type 0
+  Working w = Formed z (w .state) × (eraOf (w .state) ≡ era)
+
+  -- a committed vote
+  vote-works : (p : ℕ) (w : WorkOf) (v : SignedVoteOf) → SignedVoteOk z v → Working w → Working (committedVote z p w v)
+  unfolding committedVote addCommitted committedEffect validVote
+  vote-works p w v o f =
+      go (obsolete (w .state .counter .committed) v) (eqb (v .vote .era) (eraOf (w .state))) (isKey (v .sig) (keyOf (nodesIn (w .state)) (v .voter))) refl
+    where
+      go : (a b c : Bool) → isKey (v .sig) (keyOf (nodesIn (w .state)) (v .voter)) ≡ c
+          → Working
+          (countedAs z p w (afterCommitted z (w .state .counter) v (cond a counter.nothing-new (cond b (cond c counter.stored (counter.fault InvalidCommittedVote)) (counter.fault InvalidCommittedVote)))))
+      go true b c e = f
+      go false true true e = (
+        with-committed z (w .state) (f .0) _
+            (vote-more z (nodesIn (w .state)) v (w .state .counter .committed) (signer-member (nodesIn (w .state)) (v .voter) (v .sig) e) o (f .0 .committed-formed)),
+        f .1,
+      )
+      go false true false e = f
+      go false false c e = f
+
+  -- what becomes of key generation
+  done-formed : (now : ℕ) (ns : List Node) (g : Found KeyGenStateOf) (m : SignedKeyGenMsgOf) (v : ℕ) → RunningFormed z g → RunningFormed z (messageDone now ns g m v .key-gen)
+  unfolding messageDone
+  done-formed now ns g m v f = go (eqb (m .era) now) (validUnder ns (candidateNodes g) (m .id) (m .sig)) g f
+    where
+      go : (a b : Bool) (h : Found KeyGenStateOf) → RunningFormed z h
+          → RunningFormed z
+          (cond {A = MessageDoneOf} a (cond b (byKeyGen m v h) (doneAs h (blamed-proposer InvalidKeyGenMessageSignature))) (doneAs h (blamed-proposer InvalidKeyGenMessageEra)) .key-gen)
+      go true true (found h) k = handled-formed z (h .key-gen) (h .counts) k (m .message) v (m .id)
+      go true true nothing k = tt
+      go true false h k = k
+      go false b h k = k
+
+  -- what is told changes faults and due items only
+  told-works : (p id : ℕ) (t : Told) (w : WorkOf) → Working w → Working (applied z p id t w)
+  told-works p id steps.quiet w f = f
+  told-works p id (owed i) w f = f
+  told-works p id (blamed-proposer k) w f = f
+  told-works p id (blamed-signer k) w f = f
+
+  -- a committed key message
+  message-works : (p : ℕ) (w : WorkOf) (m : SignedKeyGenMsgOf) → Working w → Working (committedMessage z p w m)
+  unfolding committedMessage without
+  message-works p w m f =
+      let s : StateOf = w .state in
+      let d : MessageDoneOf = messageDone (eraOf s) (nodesIn s) (s .key-gen) m (firstVerdict (w .verdicts)) in
+      let g : StateOf = withKeyGen s (d .key-gen) in
+      let k : Formed z g = with-key-gen z s (f .0) (d .key-gen) (done-formed (eraOf s) (nodesIn s) (s .key-gen) m (firstVerdict (w .verdicts)) (f .0 .key-gen-formed)) in
+      let h = f .0 .store-within in
+      told-works p (m .id) (d .told) (withState (judged w) (withStore g (without m (s .store)))) (
+        with-store z g k (without m (s .store)) (all-filter (λ (x : SignedKeyGenMsgOf). x .era ≡ eraOf s) (isOther m) (s .store) (f .0 .store-era))
+            (omega (arith, filter-length (isOther m) (s .store))),
+        f .1,
+      )
+
+  -- a contribution
+  contrib-works : (w : WorkOf) (c : ContribOf) → All (SignedVoteOk z) (c .votes) → Working w → Working (committedContrib z w c)
+  unfolding committedContrib
+  contrib-works w c o f =
+      fold-keeps Working (λ (m : SignedKeyGenMsgOf). Unit {0}) (committedMessage z (c .id)) (λ x m u. message-works (c .id) x m) (foldl (committedVote z (c .id)) w (c .votes)) (c .messages)
+      (all-any (λ (m : SignedKeyGenMsgOf). Unit {0}) (λ m. tt) (c .messages))
+      (fold-keeps Working (SignedVoteOk z) (committedVote z (c .id)) (vote-works (c .id)) w (c .votes) o f)
+
+-- all contributions of a batch
+committed-works : (z : Sizes) (s : StateOf) (verdicts : List ℕ) (cs : List ContribOf) → All (λ (c : ContribOf). All (SignedVoteOk z) (c .votes)) cs → Formed z s
+    → Working z (eraOf s) (committed z s verdicts cs)
+unfolding committed
+committed-works z s verdicts cs o f =
+    fold-keeps (Working z (eraOf s)) (λ (c : ContribOf). All (SignedVoteOk z) (c .votes)) (committedContrib z) (contrib-works z (eraOf s)) (begun s verdicts) cs o (f, refl)
+
+-- a map that is not empty
+pub map-formed : (z : Sizes) (ns : List Node) → MapOk z ns → isEmpty ns ≡ false → MapFormed z ns
+map-formed z ns o e = record { map-ok = o; some = λ q. false-true (sym e ∙ ap isEmpty q) }
+
+-- steps 6 to 8, where row 7 does not refuse
+module _ (z : Sizes) (era : ℕ) (fits : era < 256 ^ 8) (s : StateOf) (later : eraOf s < era) (f : Formed z s) where
+  -- the winner is a change that was voted for
+  winner-formed : FoundOk (ChangeOk z) (computeWinner (s .counter))
+  unfolding computeWinner winner
+  winner-formed =
+      winner-ok (ChangeOk z) sameChange (maxFaulty (length (nodesIn s))) [] (map (λ (v : SignedVoteOf). v .vote .change) (s .counter .committed))
+      (all-map (λ (v : SignedVoteOf). v .vote .change) (ChangeOk z) (s .counter .committed)
+      (all-then (SignedVoteOk z) (λ (v : SignedVoteOf). ChangeOk z (v .vote .change)) (λ v o. o .vote-ok .change-ok) (s .counter .committed) (f .committed-formed .votes-ok)))
+
+  -- another map wins
+  map-wins-formed : (ns : List Node) → MapFormed z ns → Formed z (mapWins z era s ns .state)
+  unfolding mapWins keyGenFor
+  map-wins-formed ns m = go (isCandidate (candidateNodes (s .key-gen)) ns)
+    where
+      go : (b : Bool)
+          → Formed z
+          (cond {A = Decided} b (decidedAs s (inProgress (nodeChange ns)))
+          (record { state = keyGenFor z ns (newEra era (nodesIn s) s); change = inProgress (nodeChange ns); due = partDue ns (s .counter .our-id) era; recipe = nothing }) .state)
+      go true = f
+      go false = with-key-gen z (newEra era (nodesIn s) s) (new-era-formed z s f era (nodesIn s) fits later (f .nodes-formed)) (found (freshKeyGen z (newEra era (nodesIn s) s .counter .our-id) ns)) (fresh-formed z (newEra era (nodesIn s) s .counter .our-id) ns m)
+
+  -- a schedule wins
+  schedule-wins-formed : (x : EncryptionSchedule) → ChangeOk z (encryptionSchedule x) → Formed z (scheduleWins era s x .state)
+  unfolding scheduleWins
+  schedule-wins-formed x o =
+      let p : ParamsOk (withSchedule (s .params) x) = record { epochs-fit = f .params-ok .epochs-fit; schedule-ok = o } in
+      new-era-formed z (withParams s (withSchedule (s .params) x)) (with-params z s f (withSchedule (s .params) x) p) era (nodesIn s) fits later (f .nodes-formed)
+
+  decided-formed : emptyWins s ≡ false → Formed z (decide z era s .state)
+  unfolding decide emptyWins
+  decided-formed = go (readyState (s .key-gen)) (s .key-gen) (f .key-gen-formed) (computeWinner (s .counter)) winner-formed
+    where
+      go : (b : Bool) (g : Found KeyGenStateOf) → RunningFormed z g → (x : Found ChangeOf) → FoundOk (ChangeOk z) x → cond b false (isEmptyMap x) ≡ false
+          → Formed z (cond {A = Decided} b (completedBy era s g) (electedBy z era s x) .state)
+      go true (found g) k x o e = new-era-formed z (withKeyGen s nothing) (with-key-gen z s f nothing tt) era (g .key-gen .nodes) fits later (k .nodes-formed)
+      go true nothing k x o e = f
+      go false g k (found (nodeChange ns)) o e = map-wins-formed ns (map-formed z ns o e)
+      go false g k (found (encryptionSchedule x)) o e = schedule-wins-formed x o
+      go false g k nothing o e = f
+
+-- a batch call
+module _ (z : Sizes) (s : StateOf) (f : Formed z s) (b : BatchCall) where
+  -- a batch that was read
+  contribs-formed : (cs : List ContribOf) → All (λ (c : ContribOf). All (SignedVoteOk z) (c .votes)) cs → Formed z (processedContribs z s b cs .state)
+  unfolding processedContribs batchRow7 row5
+  contribs-formed cs o =
+      go (batchRow4 cs (b .verdicts)) (ltb 18446744073709551614 (eraOf s + b .inner)) refl (batchRow6 s cs) (emptyWins (committed z s (b .verdicts) cs .state)) refl
+    where
+      epoch : ℕ
+      epoch = eraOf s + b .inner
+
+      w : WorkOf
+      w = committed z s (b .verdicts) cs
+
+      k : Working z (eraOf s) w
+      k = committed-works z s (b .verdicts) cs o f
+
+      go : (r4 r5 : Bool) → ltb 18446744073709551614 epoch ≡ r5 → (r6 r7 : Bool) → emptyWins (w .state) ≡ r7
+          → Formed z (cond {A = ProcessedOf} r4 (denied s 4) (cond r5 (denied s 5) (cond r6 (denied s 6) (cond r7 (denied s 7) (finished z s epoch w)))) .state)
+      go true r5 p r6 r7 q = f
+      go false true p r6 r7 q = f
+      go false false p true r7 q = f
+      go false false p false true q = f
+      go false false p false false q =
+          let l = ltb-false 18446744073709551614 epoch p in
+          let e = k .1 in
+          decided-formed z (epoch + 1) (omega arith) (w .state) (omega arith) (k .0) q
+
+  -- the votes of a batch that was read
+  votes-read : (left : Budget) (cs : List ContribOf) → Each spending (ContribOk z) left cs → All (λ (c : ContribOf). All (SignedVoteOk z) (c .votes)) cs
+  votes-read left [] each = tt
+  votes-read left (c ∷ cs) each = (each .0 .votes-ok, votes-read (spending left c) cs (each .1))
+
+  pub batch-formed : z .nodes < 256 ^ 8 → z .rows < 256 ^ 8 → z .user < 256 ^ 8 → Bytes (b .bytes) → Formed z (processed z s b .state)
+  unfolding processed
+  batch-formed nodes-fit rows-fit user-fits are = go (batchRow1 z (b .fault-places) (b .due-places)) (readBatch z (b .bytes)) refl
+    where
+      go : (r1 : Bool) (x : Read (List ContribOf)) → readBatch z (b .bytes) ≡ x → Formed z (cond {A = ProcessedOf} r1 (denied s 1) (processedRead z s b x) .state)
+      go true x e = f
+      go false (value cs c) e = contribs-formed cs (votes-read (opening z) cs (batch-one-encoding z nodes-fit rows-fit user-fits (b .bytes) cs c are e .1 .each))
+      go false (refuse n) e = f
