@@ -1,0 +1,166 @@
+// The batch call as a host makes it: faults and due items go into lists that it lends, each as one list a field. A refused call writes nothing.
+ghost use mathlib.Core.Path.{_≡_};
+ghost use mathlib.Core.List.{map};
+ghost use lib.ListN.{length};
+ghost use Rattle.bincode.specs.Sizes.{base};
+ghost use Rattle.fault_log.specs.FaultLog.{faultsOf};
+ghost use Rattle.due.specs.Due.{dueOf};
+ghost use Rattle.dynamic_honey_badger.specs.State.{stateOf};
+ghost use Rattle.process_output.specs.Process.{processed, processedOf, BatchRefusedKeeps};
+ghost use Rattle.process_batch.specs.Lent.{filled, lentCall, shorter, faultId, kindNumber, dueKind, dueIndex, dueEra, dueNumber, dueProposer, faultsIn, dueIn};
+use due::DueKind;
+use due::DueList;
+use dynamic_honey_badger::DynamicHoneyBadger;
+use fault_log::FaultLog;
+use process_output::BatchOutcome;
+use process_output::Processed;
+
+// The shorter of two lengths.
+fn shorter_of(a: usize, b: usize) -> usize
+    ensures { λ r. ⌜ r ≡ shorter a b ⌝ }
+{
+    if a < b {
+        return a;
+    }
+    b
+}
+
+// A due item's kind as a number.
+fn due_number(kind: DueKind) -> u8
+    ensures { λ r. ⌜ r ≡ dueNumber kind ⌝ }
+{
+    match kind {
+        DueKind::Part => 0,
+        DueKind::Ack(_) => 1,
+    }
+}
+
+// The index of the proposer that an ack is for.
+fn due_proposer(kind: DueKind) -> u64
+    ensures { λ r. ⌜ r ≡ dueProposer kind ⌝ }
+{
+    match kind {
+        DueKind::Part => 0,
+        DueKind::Ack(i) => i as u64,
+    }
+}
+
+// The ids of faults, in order.
+fn write_fault_ids(list: &mut [u32], log: FaultLog)
+    ensures { λ _. ⌜ now (list .exit) ≡ filled (map faultId (faultsOf log)) (now (list .entry)) ⌝ }
+{
+    let n = log.len();
+    let mut i: usize = 0;
+    while i < n {
+        if i < list.len() {
+            let x = log.faults[i];
+            list[i] = x.node_id;
+        }
+        i += 1;
+    }
+}
+
+// The numbers of their kinds.
+fn write_fault_kinds(list: &mut [u8], log: FaultLog)
+    ensures { λ _. ⌜ now (list .exit) ≡ filled (map kindNumber (faultsOf log)) (now (list .entry)) ⌝ }
+{
+    let n = log.len();
+    let mut i: usize = 0;
+    while i < n {
+        if i < list.len() {
+            let x = log.faults[i];
+            let kind = x.kind;
+            list[i] = kind.number();
+        }
+        i += 1;
+    }
+}
+
+// The kinds of due items, in order.
+fn write_due_kinds(list: &mut [u8], due: DueList)
+    ensures { λ _. ⌜ now (list .exit) ≡ filled (map dueKind (dueOf due)) (now (list .entry)) ⌝ }
+{
+    let n = due.len();
+    let mut i: usize = 0;
+    while i < n {
+        if i < list.len() {
+            let x = due.items[i];
+            let kind = x.kind;
+            list[i] = due_number(kind);
+        }
+        i += 1;
+    }
+}
+
+// The indices of the proposers that acks are for.
+fn write_due_indices(list: &mut [u64], due: DueList)
+    ensures { λ _. ⌜ now (list .exit) ≡ filled (map dueIndex (dueOf due)) (now (list .entry)) ⌝ }
+{
+    let n = due.len();
+    let mut i: usize = 0;
+    while i < n {
+        if i < list.len() {
+            let x = due.items[i];
+            let kind = x.kind;
+            list[i] = due_proposer(kind);
+        }
+        i += 1;
+    }
+}
+
+// Their eras.
+fn write_due_eras(list: &mut [u64], due: DueList)
+    ensures { λ _. ⌜ now (list .exit) ≡ filled (map dueEra (dueOf due)) (now (list .entry)) ⌝ }
+{
+    let n = due.len();
+    let mut i: usize = 0;
+    while i < n {
+        if i < list.len() {
+            let x = due.items[i];
+            list[i] = x.era;
+        }
+        i += 1;
+    }
+}
+
+// A batch. Row 1 where a lent list is shorter than its size.
+pub fn process_batch(
+    state: DynamicHoneyBadger,
+    inner: u64,
+    batch: &[u8],
+    verdicts: &[u8],
+    fault_ids: &mut [u32],
+    fault_kinds: &mut [u8],
+    due_kinds: &mut [u8],
+    due_indices: &mut [u64],
+    due_eras: &mut [u64],
+) -> Processed
+    ensures { λ r. ⌜ (processedOf r ≡ processed base (stateOf state) (lentCall inner (now (batch .entry)) (now (verdicts .entry)) (now («fault_ids» .entry)) (now («fault_kinds» .entry)) (now («due_kinds» .entry)) (now («due_indices» .entry)) (now («due_eras» .entry))))
+        × BatchRefusedKeeps r state
+        × (now («fault_ids» .exit) ≡ filled (map faultId (faultsIn (processedOf r .answer))) (now («fault_ids» .entry)))
+        × (now («fault_kinds» .exit) ≡ filled (map kindNumber (faultsIn (processedOf r .answer))) (now («fault_kinds» .entry)))
+        × (now («due_kinds» .exit) ≡ filled (map dueKind (dueIn (processedOf r .answer))) (now («due_kinds» .entry)))
+        × (now («due_indices» .exit) ≡ filled (map dueIndex (dueIn (processedOf r .answer))) (now («due_indices» .entry)))
+        × (now («due_eras» .exit) ≡ filled (map dueEra (dueIn (processedOf r .answer))) (now («due_eras» .entry))) ⌝ }
+{
+    let fault_places = shorter_of(fault_ids.len(), fault_kinds.len());
+    let due_places = shorter_of(
+        shorter_of(due_kinds.len(), due_indices.len()),
+        due_eras.len(),
+    );
+    let r = process_output::process_output(state, inner, batch, verdicts, fault_places, due_places);
+    let outcome = r.outcome;
+    let faults = r.faults;
+    let due = r.due;
+    match outcome {
+        BatchOutcome::Refused(_) => {}
+        BatchOutcome::Reported => {
+            write_fault_ids(fault_ids, faults);
+            write_fault_kinds(fault_kinds, faults);
+            write_due_kinds(due_kinds, due);
+            write_due_indices(due_indices, due);
+            write_due_eras(due_eras, due);
+        }
+    }
+    r
+}
