@@ -3,6 +3,7 @@
 //!
 //! --raw             the Rust as it is: `error ..` or `panic ..` in place of `undefined`, no limits, own messages stored when made,
 //!                   nothing put back; comments are printed, and `counts` shows the counts per sender and the size of the store
+//! --values          no log: lines `max-faulty HEX`, `winner HEX`, `complete HEX`, each answered by the Rust's function of that name
 //! --share-passes    a share of too few values does not panic, so that the batch applies and the recipe says `missing`
 use std::io::{self, BufRead, Write};
 use std::panic::{catch_unwind, set_hook, AssertUnwindSafe};
@@ -58,6 +59,19 @@ fn bytes(field: &[u8]) -> Option<Vec<u8>> {
         return None;
     }
     field.chunks(2).map(|pair| Some(digit(pair[0])? << 4 | digit(pair[1])?)).collect()
+}
+
+/// The answer to a line of --values; none for a bad one.
+fn value(line: &[u8]) -> Option<String> {
+    let f: Vec<&[u8]> = line.split(|b| *b == b' ').collect();
+    let call = match (f[0], f.len()) {
+        (b"max-faulty", 2) => Engine::value_max_faulty,
+        (b"winner", 2) => Engine::value_winner,
+        (b"complete", 2) => Engine::value_complete,
+        _ => return None,
+    };
+    let bytes = bytes(f[1])?;
+    Some(guarded(|| call(&bytes)).unwrap_or_else(undefined))
 }
 
 #[derive(Default)]
@@ -187,11 +201,13 @@ impl Oracle {
 }
 
 fn main() -> io::Result<()> {
+    let mut values = false;
     for flag in std::env::args().skip(1) {
         match flag.as_str() {
+            "--values" => values = true,
             "--raw" => mode::RAW.store(true, Relaxed),
             "--share-passes" => mode::SHARE_PASSES.store(true, Relaxed),
-            _ => panic!("the flags are --raw and --share-passes"),
+            _ => panic!("the flags are --raw, --values and --share-passes"),
         }
     }
     set_hook(Box::new(|info| {
@@ -213,7 +229,7 @@ fn main() -> io::Result<()> {
                 output.write_all(b"\n")?;
             }
         } else if !line.is_empty() {
-            let answer = if line.len() > 140_000 { None } else { oracle.answer(&line) };
+            let answer = if line.len() > 140_000 { None } else if values { value(&line) } else { oracle.answer(&line) };
             writeln!(output, "{}", answer.unwrap_or_else(|| "bad line".into()))?;
         }
         line.clear();

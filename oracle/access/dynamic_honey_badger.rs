@@ -172,6 +172,46 @@ fn yes_no(yes: bool) -> String {
     if yes { "yes".into() } else { "no".into() }
 }
 
+/// Values one after the other to the end of the bytes.
+fn read_all<T: DeserializeOwned>(mut bytes: &[u8]) -> Answer<Vec<T>> {
+    let mut values = Vec::new();
+    while !bytes.is_empty() {
+        values.push(read_next(&mut bytes)?);
+    }
+    Ok(values)
+}
+
+/// The value at the start of the bytes, which are then those behind it.
+fn read_next<T: DeserializeOwned>(bytes: &mut &[u8]) -> Answer<T> {
+    bincode::deserialize_from(bytes).map_err(|_| "bytes that cannot be read".into())
+}
+
+/// Of the node with index i, 17 flags: whether its part is recorded, and who of the 16 acknowledged it.
+fn parts_of(flags: &[u8]) -> Vec<(u64, Vec<u64>)> {
+    let rows = flags.chunks(17).enumerate().filter(|(_, row)| row[0] != 0);
+    rows.map(|(i, row)| (i as u64, (0..16).filter(|j| row[1 + j] != 0).map(|j| j as u64).collect())).collect()
+}
+
+/// Single values of the Rust's functions, beside the log; a method for each.
+impl Engine {
+    pub fn value_max_faulty(bytes: &[u8]) -> Answer<String> {
+        Ok(format!("ok {}", crate::util::max_faulty(read::<u64>(bytes)? as usize)))
+    }
+
+    pub fn value_winner(mut bytes: &[u8]) -> Answer<String> {
+        let map = read_next(&mut bytes)?;
+        let winner = VoteCounter::winner_of(map, read_all(bytes)?)?;
+        Ok(winner.map_or("no".into(), |change| format!("ok {}", encoded(&change))))
+    }
+
+    pub fn value_complete(mut bytes: &[u8]) -> Answer<String> {
+        let map = read_next(&mut bytes)?;
+        let state = KeyGenState::new(SyncKeyGen::of_parts(map, parts_of(bytes))?);
+        let key_gen = &state.key_gen;
+        Ok(format!("ok {} {} {}", key_gen.count_complete(), yes_no(key_gen.is_ready()), yes_no(state.is_ready())))
+    }
+}
+
 /// A method for each call of the log.
 impl Engine {
     pub fn log_schedule(epoch: u64, schedule: &[u8]) -> Answer<String> {

@@ -1,5 +1,8 @@
 //! Reaches the private fields of sync_key_gen.rs. A row or value is a u64 in the log and eight bytes in the Rust's lists.
-use super::{Ack, BivarCommitment, Part, SyncKeyGen};
+use super::{Ack, BivarCommitment, Part, ProposalState, SyncKeyGen};
+use crate::crypto::SecretKey;
+use crate::{util, Answer, PubKeyMap};
+use rand::rngs::mock::StepRng;
 
 fn widen(handles: Vec<u64>) -> Vec<Vec<u8>> {
     handles.into_iter().map(|h| h.to_le_bytes().to_vec()).collect()
@@ -47,5 +50,18 @@ impl SyncKeyGen<u32> {
     /// The recorded parts by proposer's index: index, commitment, acknowledgers.
     pub fn parts(&self) -> impl Iterator<Item = (u64, u64, Vec<u64>)> + '_ {
         self.parts.iter().map(|(index, part)| (*index, part.commit.handle, part.acks.iter().cloned().collect()))
+    }
+
+    /// An observer's key generation with the parts of these indices recorded, each with its acknowledgers.
+    pub fn of_parts(map: PubKeyMap<u32>, parts: Vec<(u64, Vec<u64>)>) -> Answer<Self> {
+        let threshold = util::max_faulty(map.len());
+        let made = SyncKeyGen::new(0, SecretKey(1), map, threshold, &mut StepRng::new(0, 1));
+        let (mut key_gen, _) = made.map_err(|error| format!("error {:?}", error))?;
+        for (index, acks) in parts {
+            let mut state = ProposalState::new(BivarCommitment { handle: 0, proposer: 0, degree: threshold });
+            state.acks.extend(acks);
+            key_gen.parts.insert(index, state);
+        }
+        Ok(key_gen)
     }
 }
