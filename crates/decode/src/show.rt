@@ -4,6 +4,7 @@ ghost use lib.ListN.{length};
 use crate::hex::Unhexed;
 use bincode::ReadU32;
 use bincode::Step;
+use change::Change;
 use change::ChangeKind;
 use honey_badger::EncryptionSchedule;
 use honey_badger::ReadSchedule;
@@ -32,11 +33,11 @@ fn equal(a: &[u8], b: &[u8]) -> bool {
     true
 }
 
-fn bad_line() {
+pub(crate) fn bad_line() {
     io::write_all(STDOUT_FILENO, b"bad line\n");
 }
 
-fn refused(n: u8) {
+pub(crate) fn refused(n: u8) {
     io::write_all(STDOUT_FILENO, b"refused ");
     io::print_decimal(STDOUT_FILENO, n as u64);
     io::write_all(STDOUT_FILENO, b"\n");
@@ -50,7 +51,7 @@ fn ok(buf: &[u8], n: usize) {
     }
 }
 
-fn end_line() {
+pub(crate) fn end_line() {
     io::write_all(STDOUT_FILENO, b"\n");
 }
 
@@ -154,6 +155,14 @@ fn parameters(b: &[u8]) {
     end_line();
 }
 
+// A change, written.
+pub(crate) fn ok_change(x: Change) {
+    let mut buf = [0u8; 512];
+    let n = change::write_change(&mut buf, 0, x);
+    ok(&buf, n);
+    end_line();
+}
+
 fn change(b: &[u8]) {
     let r = change::read_whole_change(b);
     let step = r.step;
@@ -162,10 +171,7 @@ fn change(b: &[u8]) {
         refused(step.number());
         return;
     };
-    let mut buf = [0u8; 512];
-    let n = change::write_change(&mut buf, 0, value);
-    ok(&buf, n);
-    end_line();
+    ok_change(value);
 }
 
 // Whether a value that ends at c is the whole input; bytes left over are 2.
@@ -403,11 +409,31 @@ fn large(kind: &[u8], b: &[u8]) -> bool {
     false
 }
 
+// What is worked out from a value.
+fn counted(kind: &[u8], b: &[u8]) -> bool {
+    if equal(kind, b"max-faulty") {
+        crate::counts::faulty(b);
+        return true;
+    }
+    if equal(kind, b"winner") {
+        crate::counts::winner(b);
+        return true;
+    }
+    if equal(kind, b"complete") {
+        crate::counts::complete(b);
+        return true;
+    }
+    false
+}
+
 fn dispatch(kind: &[u8], b: &[u8]) {
     if small(kind, b) {
         return;
     }
     if large(kind, b) {
+        return;
+    }
+    if counted(kind, b) {
         return;
     }
     bad_line();

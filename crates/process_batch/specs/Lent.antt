@@ -1,6 +1,7 @@
 -- The batch call with the lists that the host lends: faults as ids and kinds, due items as kinds and eras, each filled from the first place on.
 use Prim.Native.Nat.{ℕ}
-use mathlib.Core.List.{List, [], _++_}
+use mathlib.Core.Path.{_≡_}
+use mathlib.Core.List.{List, [], _++_, map}
 use mathlib.Core.Bool.{cond}
 use lib.ListN.{length, take, drop}
 use lib.Dec.{ltb}
@@ -64,3 +65,11 @@ faultsIn (refused n) = []
 abbrev pub dueIn : Outcome ReportOf → List DueItem
 dueIn (done r) = r .due
 dueIn (refused n) = []
+
+-- what the lists hold at the end: each is filled from its first place on
+abbrev pub FaultsFilled : Outcome ReportOf → List ℕ → List ℕ → List ℕ → List ℕ → Type 0
+FaultsFilled a ids ids′ kinds kinds′ = (ids′ ≡ filled (map faultId (faultsIn a)) ids) × (kinds′ ≡ filled (map kindNumber (faultsIn a)) kinds)
+
+abbrev pub DueFilled : Outcome ReportOf → List ℕ → List ℕ → List ℕ → List ℕ → List ℕ → List ℕ → Type 0
+DueFilled a kinds kinds′ indices indices′ eras eras′ =
+    (kinds′ ≡ filled (map dueKind (dueIn a)) kinds) × (indices′ ≡ filled (map dueIndex (dueIn a)) indices) × (eras′ ≡ filled (map dueEra (dueIn a)) eras)

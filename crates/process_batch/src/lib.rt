@@ -7,7 +7,7 @@ ghost use Rattle.fault_log.specs.FaultLog.{faultsOf};
 ghost use Rattle.due.specs.Due.{dueOf};
 ghost use Rattle.dynamic_honey_badger.specs.State.{stateOf};
 ghost use Rattle.process_output.specs.Process.{processed, processedOf, BatchRefusedKeeps};
-ghost use Rattle.process_batch.specs.Lent.{filled, lentCall, shorter, faultId, kindNumber, dueKind, dueIndex, dueEra, dueNumber, dueProposer, faultsIn, dueIn};
+ghost use Rattle.process_batch.specs.Lent.{filled, lentCall, shorter, faultId, kindNumber, dueKind, dueIndex, dueEra, dueNumber, dueProposer, FaultsFilled, DueFilled};
 use due::DueKind;
 use due::DueList;
 use dynamic_honey_badger::DynamicHoneyBadger;
@@ -137,11 +137,8 @@ pub fn process_batch(
 ) -> Processed
     ensures { λ r. ⌜ (processedOf r ≡ processed base (stateOf state) (lentCall inner (now (batch .entry)) (now (verdicts .entry)) (now («fault_ids» .entry)) (now («fault_kinds» .entry)) (now («due_kinds» .entry)) (now («due_indices» .entry)) (now («due_eras» .entry))))
         × BatchRefusedKeeps r state
-        × (now («fault_ids» .exit) ≡ filled (map faultId (faultsIn (processedOf r .answer))) (now («fault_ids» .entry)))
-        × (now («fault_kinds» .exit) ≡ filled (map kindNumber (faultsIn (processedOf r .answer))) (now («fault_kinds» .entry)))
-        × (now («due_kinds» .exit) ≡ filled (map dueKind (dueIn (processedOf r .answer))) (now («due_kinds» .entry)))
-        × (now («due_indices» .exit) ≡ filled (map dueIndex (dueIn (processedOf r .answer))) (now («due_indices» .entry)))
-        × (now («due_eras» .exit) ≡ filled (map dueEra (dueIn (processedOf r .answer))) (now («due_eras» .entry))) ⌝ }
+        × FaultsFilled (processedOf r .answer) (now («fault_ids» .entry)) (now («fault_ids» .exit)) (now («fault_kinds» .entry)) (now («fault_kinds» .exit))
+        × DueFilled (processedOf r .answer) (now («due_kinds» .entry)) (now («due_kinds» .exit)) (now («due_indices» .entry)) (now («due_indices» .exit)) (now («due_eras» .entry)) (now («due_eras» .exit)) ⌝ }
 {
     let fault_places = shorter_of(fault_ids.len(), fault_kinds.len());
     let due_places = shorter_of(

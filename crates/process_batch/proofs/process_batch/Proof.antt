@@ -58,11 +58,8 @@ returns c =
     let e = c .enum-told .given .1 in (
       called p,
       p .process-output .ensures .1,
-      faults-kept r _ e faultId _,
-      faults-kept r _ e kindNumber _,
-      due-kept r _ e dueKind _,
-      due-kept r _ e dueIndex _,
-      due-kept r _ e dueEra _,
+      (faults-kept r _ e faultId _, faults-kept r _ e kindNumber _),
+      (due-kept r _ e dueKind _, due-kept r _ e dueIndex _, due-kept r _ e dueEra _),
     )
 
 same-length : tie.Need-same-length
@@ -87,11 +84,15 @@ returns-2 c =
     let e = c .before .before .before .before .before .before .before .before .before .before .before .before .before .before .before .before .before .before .before .before .enum-told2 .given .1 in (
       called p,
       p .process-output .ensures .1,
-      faults-written r e faultId _ _ (c .before .before .before .before .before .before .before .before .before .before .before .before .before .before .before .before .before .before .write-fault-ids .ensures),
-      faults-written r e kindNumber _ _ (c .before .before .before .before .before .before .before .before .before .before .before .before .before .before .write-fault-kinds .ensures),
-      due-written r e dueKind _ _ (c .before .before .before .before .before .before .before .before .before .before .write-due-kinds .ensures),
-      due-written r e dueIndex _ _ (c .before .before .before .before .before .before .write-due-indices .ensures),
-      due-written r e dueEra _ _ (c .before .before .write-due-eras .ensures),
+      (
+        faults-written r e faultId _ _ (c .before .before .before .before .before .before .before .before .before .before .before .before .before .before .before .before .before .before .write-fault-ids .ensures),
+        faults-written r e kindNumber _ _ (c .before .before .before .before .before .before .before .before .before .before .before .before .before .before .write-fault-kinds .ensures),
+      ),
+      (
+        due-written r e dueKind _ _ (c .before .before .before .before .before .before .before .before .before .before .write-due-kinds .ensures),
+        due-written r e dueIndex _ _ (c .before .before .before .before .before .before .write-due-indices .ensures),
+        due-written r e dueEra _ _ (c .before .before .write-due-eras .ensures),
+      ),
     )
 
 pub process-batch-spec : {M : Type 1} → statement M
