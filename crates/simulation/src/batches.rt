@@ -14,20 +14,32 @@ use votes::Vote;
 // How many parts are acknowledged: those with the least indices.
 const ACKED: u64 = 4;
 
+// A batch or a message: the first `len` bytes.
+pub struct Written {
+    pub bytes: [u8; Written::LIMIT],
+    pub len: usize,
+}
+
+impl Written {
+    pub const LIMIT: usize = 4096;
+
+    // The same without its last byte.
+    pub(crate) fn damaged(self) -> Self {
+        let n = self.len;
+        if n == 0 {
+            return self;
+        }
+        let bytes = self.bytes;
+        Written { bytes, len: n - 1 }
+    }
+}
+
 // The first n bytes, all where there are fewer.
 pub(crate) fn first(s: &[u8], n: usize) -> &[u8] {
     if n <= s.len() {
         return &s[0..n];
     }
     s
-}
-
-// All bytes but the last.
-pub(crate) fn all_but_last(s: &[u8]) -> &[u8] {
-    if s.len() == 0 {
-        return s;
-    }
-    first(s, s.len() - 1)
 }
 
 // A node of the season: node i has key 100 + i.
@@ -143,61 +155,88 @@ fn write_acks(buf: &mut [u8], at: usize, era: u64, map: PubKeyMap) -> usize {
     c
 }
 
-// A batch without a contribution.
-pub(crate) fn nothing(buf: &mut [u8]) -> usize {
-    bincode::write_u64(buf, 0, 0)
+// A batch without a contribution takes 8 bytes; what is longer has bytes left over.
+pub(crate) fn nothing(len: usize) -> Written {
+    let bytes = [0u8; Written::LIMIT];
+    Written { bytes, len }
 }
 
-// The votes of nodes 1 and 2 for a change.
-pub(crate) fn votes(buf: &mut [u8], era: u64, change: Change) -> usize {
-    let a = open(buf, 41, 0);
-    let b = bincode::write_u64(buf, a, 2);
-    let c = write_vote(buf, b, era, 1, change);
-    write_vote(buf, c, era, 2, change)
+// The votes of node 1 and another for a change.
+pub(crate) fn votes(era: u64, other: u32, change: Change) -> Written {
+    let mut bytes = [0u8; Written::LIMIT];
+    let a = open(&mut bytes, 41, 0);
+    let b = bincode::write_u64(&mut bytes, a, 2);
+    let c = write_vote(&mut bytes, b, era, 1, change);
+    let len = write_vote(&mut bytes, c, era, other, change);
+    Written { bytes, len }
+}
+
+// One vote for a change.
+pub(crate) fn one_vote(era: u64, id: u32, change: Change) -> Written {
+    let mut bytes = [0u8; Written::LIMIT];
+    let a = open(&mut bytes, 46, 0);
+    let b = bincode::write_u64(&mut bytes, a, 1);
+    let len = write_vote(&mut bytes, b, era, id, change);
+    Written { bytes, len }
 }
 
 // One part, of a node that need not be in the map.
-pub(crate) fn one_part(buf: &mut [u8], era: u64, map: PubKeyMap, id: u32) -> usize {
-    let a = open(buf, 42, 1);
-    let b = write(buf, a, era, node(id), part(map, id));
-    bincode::write_u64(buf, b, 0)
+pub(crate) fn one_part(era: u64, map: PubKeyMap, id: u32) -> Written {
+    let mut bytes = [0u8; Written::LIMIT];
+    let a = open(&mut bytes, 42, 1);
+    let b = write(&mut bytes, a, era, node(id), part(map, id));
+    let len = bincode::write_u64(&mut bytes, b, 0);
+    Written { bytes, len }
 }
 
 // The parts of a map's nodes.
-pub(crate) fn parts(buf: &mut [u8], era: u64, map: PubKeyMap) -> usize {
-    let a = open(buf, 43, map.len() as u64);
-    let b = write_parts(buf, a, era, map);
-    bincode::write_u64(buf, b, 0)
+pub(crate) fn parts(era: u64, map: PubKeyMap) -> Written {
+    let mut bytes = [0u8; Written::LIMIT];
+    let a = open(&mut bytes, 43, map.len() as u64);
+    let b = write_parts(&mut bytes, a, era, map);
+    let len = bincode::write_u64(&mut bytes, b, 0);
+    Written { bytes, len }
 }
 
 // The acks of a map's nodes.
-pub(crate) fn acks(buf: &mut [u8], era: u64, map: PubKeyMap) -> usize {
-    let a = open(buf, 44, map.len() as u64 * ACKED);
-    let b = write_acks(buf, a, era, map);
-    bincode::write_u64(buf, b, 0)
+pub(crate) fn acks(era: u64, map: PubKeyMap) -> Written {
+    let mut bytes = [0u8; Written::LIMIT];
+    let a = open(&mut bytes, 44, map.len() as u64 * ACKED);
+    let b = write_acks(&mut bytes, a, era, map);
+    let len = bincode::write_u64(&mut bytes, b, 0);
+    Written { bytes, len }
 }
 
 // Parts and acks of a map's nodes.
-pub(crate) fn parts_and_acks(buf: &mut [u8], era: u64, map: PubKeyMap) -> usize {
-    let a = open(buf, 45, map.len() as u64 * (ACKED + 1));
-    let b = write_parts(buf, a, era, map);
-    let c = write_acks(buf, b, era, map);
-    bincode::write_u64(buf, c, 0)
+pub(crate) fn parts_and_acks(era: u64, map: PubKeyMap) -> Written {
+    let mut bytes = [0u8; Written::LIMIT];
+    let a = open(&mut bytes, 45, map.len() as u64 * (ACKED + 1));
+    let b = write_parts(&mut bytes, a, era, map);
+    let c = write_acks(&mut bytes, b, era, map);
+    let len = bincode::write_u64(&mut bytes, c, 0);
+    Written { bytes, len }
+}
+
+// The bytes of a message.
+fn wire(message: Message) -> Written {
+    let mut bytes = [0u8; Written::LIMIT];
+    let len = message::write_message(&mut bytes, 0, message);
+    Written { bytes, len }
 }
 
 // A vote of a node, as a message.
-pub(crate) fn vote_message(buf: &mut [u8], era: u64, id: u32, change: Change) -> usize {
-    message::write_message(buf, 0, Message::of_vote(vote(era, id, change)))
+pub(crate) fn vote_message(era: u64, id: u32, change: Change) -> Written {
+    wire(Message::of_vote(vote(era, id, change)))
 }
 
 // A part of a node, as a message.
-pub(crate) fn part_message(buf: &mut [u8], era: u64, map: PubKeyMap, id: u32) -> usize {
+pub(crate) fn part_message(era: u64, map: PubKeyMap, id: u32) -> Written {
     let signer = node(id);
-    message::write_message(buf, 0, Message::of_key_gen(era, part(map, id), signer.key))
+    wire(Message::of_key_gen(era, part(map, id), signer.key))
 }
 
 // An ack of a node on the part with index 0, as a message.
-pub(crate) fn ack_message(buf: &mut [u8], era: u64, map: PubKeyMap, id: u32) -> usize {
+pub(crate) fn ack_message(era: u64, map: PubKeyMap, id: u32) -> Written {
     let signer = node(id);
-    message::write_message(buf, 0, Message::of_key_gen(era, ack(map, 0), signer.key))
+    wire(Message::of_key_gen(era, ack(map, 0), signer.key))
 }

@@ -1,14 +1,31 @@
-// Whether two replicas tell the same, and hold the same of what is shared.
+// In what two replicas differ first, in what they tell and in what they hold of what is shared.
 use batch::Batch;
 use change::ChangeState;
 use dynamic_honey_badger::DynamicHoneyBadger;
+use fault_log::Fault;
+use fault_log::FaultKind;
+use fault_log::FaultLog;
 use key_gen::KeyGen;
 use key_gen::Proposal;
 use key_gen_state::KeyGenState;
 use params::Params;
 use pub_key_map::PubKeyMap;
 use signed_votes::SignedVotes;
+use vote_counter::VoteCounter;
 use votes::SignedVote;
+
+// What differs first.
+pub enum Difference {
+    Nothing,
+    Refusal,
+    Report,
+    Faults,
+    Era,
+    Roster,
+    Votes,
+    Params,
+    KeyGeneration,
+}
 
 fn same_bytes(a: &[u8], b: &[u8]) -> bool {
     if a.len() != b.len() {
@@ -131,31 +148,42 @@ fn same_key_gen(a: KeyGenState, b: KeyGenState) -> bool {
     same_proposals(x, y)
 }
 
-// Era, map, parameters, committed votes and key generation.
-pub(crate) fn same_shared(a: DynamicHoneyBadger, b: DynamicHoneyBadger) -> bool {
-    let x = a.vote_counter;
-    let y = b.vote_counter;
-    if x.era != y.era {
-        return false;
+// Era, map and committed votes.
+fn counter_difference(a: VoteCounter, b: VoteCounter) -> Difference {
+    if a.era != b.era {
+        return Difference::Era;
     }
-    let map = x.pub_keys;
-    let other_map = y.pub_keys;
+    let map = a.pub_keys;
+    let other_map = b.pub_keys;
     if !map.same(other_map) {
-        return false;
+        return Difference::Roster;
     }
+    let votes = a.committed;
+    let other_votes = b.committed;
+    if !same_votes(votes, other_votes) {
+        return Difference::Votes;
+    }
+    Difference::Nothing
+}
+
+// Era, map, committed votes, parameters and key generation.
+pub(crate) fn shared_difference(a: DynamicHoneyBadger, b: DynamicHoneyBadger) -> Difference {
+    let counter = a.vote_counter;
+    let other_counter = b.vote_counter;
+    let Difference::Nothing = counter_difference(counter, other_counter) else {
+        return counter_difference(counter, other_counter);
+    };
     let params = a.params;
     let other_params = b.params;
     if !same_params(params, other_params) {
-        return false;
-    }
-    let votes = x.committed;
-    let other_votes = y.committed;
-    if !same_votes(votes, other_votes) {
-        return false;
+        return Difference::Params;
     }
     let key_gen = a.key_gen_state;
     let other_key_gen = b.key_gen_state;
-    same_key_gen(key_gen, other_key_gen)
+    if !same_key_gen(key_gen, other_key_gen) {
+        return Difference::KeyGeneration;
+    }
+    Difference::Nothing
 }
 
 pub(crate) fn same_report(a: Batch, b: Batch) -> bool {
@@ -178,4 +206,58 @@ pub(crate) fn same_report(a: Batch, b: Batch) -> bool {
     let params = a.params;
     let other_params = b.params;
     same_params(params, other_params)
+}
+
+// Whether a kind of fault follows from a replica's own verdicts: rows 11 to 13 and values 16 to 18.
+fn is_own(kind: FaultKind) -> bool {
+    let k = kind.number();
+    if k < 11 {
+        return false;
+    }
+    if k < 14 {
+        return true;
+    }
+    15 < k
+}
+
+// The faults that every replica must tell, in order.
+pub(crate) fn shared_faults(log: FaultLog) -> FaultLog {
+    let n = log.len();
+    let mut shared = FaultLog::empty();
+    let mut i: usize = 0;
+    while i < n {
+        let x = log.faults[i];
+        let kind = x.kind;
+        if !is_own(kind) {
+            shared = shared.append(x);
+        }
+        i += 1;
+    }
+    shared
+}
+
+fn same_fault(a: Fault, b: Fault) -> bool {
+    let x = a.kind;
+    let y = b.kind;
+    if a.node_id != b.node_id {
+        return false;
+    }
+    x.number() == y.number()
+}
+
+pub(crate) fn same_faults(a: FaultLog, b: FaultLog) -> bool {
+    let n = a.len();
+    if n != b.len() {
+        return false;
+    }
+    let mut i: usize = 0;
+    while i < n {
+        let x = a.faults[i];
+        let y = b.faults[i];
+        if !same_fault(x, y) {
+            return false;
+        }
+        i += 1;
+    }
+    true
 }

@@ -1,20 +1,24 @@
 // The replicas of a season: each takes every batch, and all are compared with the first.
-ghost use Prim.Native.Nat.{_≤_};
+ghost use Prim.Native.Nat.{_≤_, _<_};
 ghost use Rattle.simulation.specs.Season.{replicas};
+use crate::batches::Written;
+use crate::batches::first;
+use crate::compare::Difference;
 use batch::Batch;
 use change::ChangeState;
-use due::DueList;
 use dynamic_honey_badger::DynamicHoneyBadger;
 use fault_log::FaultLog;
 use internal_contrib::CheckBatch;
 use process_output::BatchOutcome;
 use process_output::Processed;
 
-// Places from `count` on hold no replica. The report is the first replica's of the last batch that was not refused.
+// Places from `count` on hold no replica. The report is the first replica's of the last batch,
+// and counts if that was not refused; `agree` says whether all answered the last batch alike.
 pub struct Fleet {
     pub count: usize,
     pub states: [DynamicHoneyBadger; Fleet::LIMIT],
     pub report: Batch,
+    pub agree: bool,
 }
 
 impl Fleet {
@@ -24,19 +28,12 @@ impl Fleet {
 
     // The first replica alone.
     pub(crate) fn new(state: DynamicHoneyBadger) -> Self {
-        let counter = state.vote_counter;
-        let pub_keys = counter.pub_keys;
-        let params = state.params;
+        let report = no_report(state);
         Fleet {
             count: 1,
             states: [state; Fleet::LIMIT],
-            report: Batch {
-                epoch: 0,
-                era: 0,
-                change: ChangeState::none(),
-                pub_keys,
-                params,
-            },
+            report,
+            agree: true,
         }
     }
 
@@ -47,41 +44,85 @@ impl Fleet {
         if n < Fleet::LIMIT { n } else { Fleet::LIMIT }
     }
 
+    // Replica i.
+    pub(crate) fn replica(self, i: usize) -> DynamicHoneyBadger
+        requires { ⌜ i < replicas ⌝ }
+    {
+        self.states[i]
+    }
+
+    // The same with another state at place i.
+    pub(crate) fn put(mut self, i: usize, state: DynamicHoneyBadger) -> Self
+        requires { ⌜ i < replicas ⌝ }
+    {
+        self.states[i] = state;
+        self
+    }
+
     // One replica more, if there is a place.
     pub(crate) fn add(mut self, state: DynamicHoneyBadger) -> Self {
-        let n = self.len();
-        if n < Fleet::LIMIT {
-            self.states[n] = state;
-            self.count = n + 1;
+        let n = self.count;
+        if Fleet::LIMIT <= n {
+            return self;
         }
+        self.states[n] = state;
+        self.count = n + 1;
         self
     }
 
     // Takes a batch and writes the step's line.
-    pub(crate) fn take(mut self, step: u64, inner: u64, batch: &[u8]) -> Self {
+    pub(crate) fn take(self, step: u64, inner: u64, batch: Written) -> Self {
+        let a = handle(step, self.replica(0), 0, inner, batch);
+        let f = self.lead(a);
+        let g = f.follow(step, a, inner, batch);
+        if g.agree {
+            tell(step, a);
+        }
+        g
+    }
+
+    // What the first replica answered.
+    fn lead(mut self, first: Processed) -> Self {
+        let report = first.batch;
+        self.report = report;
+        self.agree = true;
+        let state = first.state;
+        self.put(0, state)
+    }
+
+    // The other replicas take the batch.
+    fn follow(mut self, step: u64, first: Processed, inner: u64, batch: Written) -> Self {
         let n = self.len();
-        let a = handle(self.states[0], 0, inner, batch);
-        let mut agree = true;
         let mut i: usize = 1;
         while i < n {
-            let b = handle(self.states[i], i, inner, batch);
-            if !same(a, b) {
-                agree = false;
-            }
-            let other = b.state;
-            self.states[i] = other;
+            let b = handle(step, self.replica(i), i, inner, batch);
+            self = self.compared(step, first, i, b);
             i += 1;
         }
-        let first = a.state;
-        self.states[0] = first;
-        let outcome = a.outcome;
-        let refusal = number(outcome);
-        if refusal == 0 {
-            let report = a.batch;
-            self.report = report;
-        }
-        tell(step, agree, refusal, first);
         self
+    }
+
+    // What replica i answered, compared with the first's answer.
+    fn compared(mut self, step: u64, first: Processed, i: usize, b: Processed) -> Self
+        requires { ⌜ i < replicas ⌝ }
+    {
+        self.agree = crate::show::still_agree(step, self.agree, i, difference(first, b));
+        let state = b.state;
+        self.put(i, state)
+    }
+}
+
+// The report of a replica before its first batch.
+fn no_report(state: DynamicHoneyBadger) -> Batch {
+    let counter = state.vote_counter;
+    let pub_keys = counter.pub_keys;
+    let params = state.params;
+    Batch {
+        epoch: 0,
+        era: 0,
+        change: ChangeState::none(),
+        pub_keys,
+        params,
     }
 }
 
@@ -104,10 +145,12 @@ fn verdicts_of(batch: &[u8]) -> usize {
 }
 
 // The batch as one replica handles it.
-fn handle(state: DynamicHoneyBadger, i: usize, inner: u64, batch: &[u8]) -> Processed {
+fn handle(step: u64, state: DynamicHoneyBadger, i: usize, inner: u64, batch: Written) -> Processed {
+    let bytes = batch.bytes;
+    let lent = first(&bytes, batch.len);
     let verdicts = [verdict(i); Fleet::VERDICTS];
-    let given = crate::batches::first(&verdicts, verdicts_of(batch));
-    process_output::process_output(state, inner, batch, given, FaultLog::LIMIT, DueList::LIMIT)
+    let given = first(&verdicts, verdicts_of(lent));
+    crate::host::call(step, state, inner, lent, given)
 }
 
 // The refusal's number, 0 where there is none.
@@ -118,31 +161,68 @@ fn number(outcome: BatchOutcome) -> u8 {
     }
 }
 
-// The same refusal or the same report, and the same shared state.
-fn same(a: Processed, b: Processed) -> bool {
+// The same faults but for those of the replica's own verdicts.
+fn same_logs(a: Processed, b: Processed) -> bool {
+    let faults = a.faults;
+    let other_faults = b.faults;
+    crate::compare::same_faults(
+        crate::compare::shared_faults(faults),
+        crate::compare::shared_faults(other_faults),
+    )
+}
+
+// The reports, then the faults.
+fn told_difference(a: Processed, b: Processed) -> Difference {
+    let report = a.batch;
+    let other_report = b.batch;
+    if !crate::compare::same_report(report, other_report) {
+        return Difference::Report;
+    }
+    if !same_logs(a, b) {
+        return Difference::Faults;
+    }
+    Difference::Nothing
+}
+
+fn state_difference(a: Processed, b: Processed) -> Difference {
+    let state = a.state;
+    let other_state = b.state;
+    crate::compare::shared_difference(state, other_state)
+}
+
+// The refusals or what was told, then the shared state.
+fn difference(a: Processed, b: Processed) -> Difference {
     let x = a.outcome;
     let y = b.outcome;
     if number(x) != number(y) {
-        return false;
+        return Difference::Refusal;
     }
-    let report = a.batch;
-    let other_report = b.batch;
     if number(x) == 0 {
-        if !crate::compare::same_report(report, other_report) {
-            return false;
-        }
+        let Difference::Nothing = told_difference(a, b) else {
+            return told_difference(a, b);
+        };
     }
-    let state = a.state;
-    let other_state = b.state;
-    crate::compare::same_shared(state, other_state)
+    state_difference(a, b)
 }
 
-fn tell(step: u64, agree: bool, refusal: u8, state: DynamicHoneyBadger) {
-    if !agree {
-        crate::show::differ(step);
-        return;
-    }
+// How many faults every replica must tell.
+fn shared_count(faults: FaultLog) -> usize {
+    let shared = crate::compare::shared_faults(faults);
+    shared.len()
+}
+
+// Era and roster of a replica, at the end of a line.
+pub(crate) fn tell_network(state: DynamicHoneyBadger) {
     let counter = state.vote_counter;
     let map = counter.pub_keys;
-    crate::show::agree(step, refusal, counter.era, map);
+    crate::show::network(counter.era, map);
+}
+
+// What all answered. A refused batch has no faults.
+fn tell(step: u64, a: Processed) {
+    let outcome = a.outcome;
+    let faults = a.faults;
+    crate::show::agree(step, number(outcome), shared_count(faults));
+    let state = a.state;
+    tell_network(state);
 }

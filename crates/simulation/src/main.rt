@@ -2,6 +2,7 @@
 mod batches;
 mod compare;
 mod fleet;
+mod host;
 mod season;
 mod show;
 
@@ -9,5 +10,6 @@ fn main() {
     let f = season::start();
     let grown = season::grow(f);
     let shrunk = season::shrink(grown);
-    season::end(shrunk);
+    let ended = season::end(shrunk);
+    season::wait(ended);
 }

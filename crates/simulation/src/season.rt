@@ -1,13 +1,19 @@
-// The season: a node is added, a schedule is chosen, a replica joins while a node leaves.
+// The season: a node is added, a schedule is chosen, a replica joins while a node leaves, a vote waits for another.
 use crate::batches;
+use crate::batches::Written;
 use crate::compare;
+use crate::fleet;
 use crate::fleet::Fleet;
 use crate::show;
+use batch::Batch;
 use batch::Planned;
 use change::Change;
 use due::DueList;
 use dynamic_honey_badger::DynamicHoneyBadger;
+use dynamic_honey_badger::Handled;
 use dynamic_honey_badger::Handling;
+use dynamic_honey_badger::JoinStarted;
+use dynamic_honey_badger::Started;
 use dynamic_honey_badger::VoteDone;
 use honey_badger::EncryptionSchedule;
 use join_plan::JoinPlan;
@@ -16,8 +22,10 @@ use params::Params;
 use params::SubsetHandlingStrategy;
 use pub_key_map::PubKeyMap;
 
-// Room for a batch of the season.
-const BYTES: usize = 4096;
+// What a host expects of a message, as `told` numbers it.
+const QUIET: u8 = 0;
+
+const REFUSED: u8 = 2;
 
 fn initial_params() -> Params {
     Params {
@@ -34,6 +42,13 @@ fn accepted(x: StartOutcome) -> bool {
     }
 }
 
+// The state of a replica that was started.
+fn started(r: Started) -> DynamicHoneyBadger {
+    let outcome = r.outcome;
+    show::expect(0, accepted(outcome));
+    r.state
+}
+
 // A replica with an own id, in era 0 of nodes 1 to 4.
 fn replica(our_id: u32) -> DynamicHoneyBadger {
     let own = batches::node(our_id);
@@ -41,16 +56,13 @@ fn replica(our_id: u32) -> DynamicHoneyBadger {
     let mut params = [0u8; 64];
     let n = pub_key_map::write_map(&mut map, 0, batches::roster(4));
     let m = params::write_params(&mut params, 0, initial_params());
-    let r = DynamicHoneyBadger::new(
+    started(DynamicHoneyBadger::new(
         our_id,
         own.key,
         0,
         batches::first(&map, n),
         batches::first(&params, m),
-    );
-    let outcome = r.outcome;
-    show::expect(0, accepted(outcome));
-    r.state
+    ))
 }
 
 // Two validators and an observer.
@@ -60,111 +72,118 @@ pub(crate) fn start() -> Fleet {
     g.add(replica(9))
 }
 
-// The votes of nodes 1 and 2 for a change, as the batch of a step.
-fn elect(f: Fleet, step: u64, era: u64, inner: u64, change: Change) -> Fleet {
-    let mut buf = [0u8; BYTES];
-    let n = batches::votes(&mut buf, era, change);
-    f.take(step, inner, batches::first(&buf, n))
-}
-
-// The first replica casts a vote of its own.
-fn vote_alone(mut f: Fleet) -> Fleet {
-    let state = f.states[0];
-    let r = state.vote_to_remove(3);
-    let outcome = r.outcome;
-    let cast = match outcome {
+fn cast(x: VoteDone) -> bool {
+    match x {
         VoteDone::Cast => true,
         VoteDone::Nothing => false,
         VoteDone::Refused(_) => false,
-    };
-    show::expect(1, cast);
-    let next = r.state;
-    f.states[0] = next;
-    f
-}
-
-fn quiet(x: Handling) -> bool {
-    match x {
-        Handling::Quiet => true,
-        Handling::Faulty(_) => false,
-        Handling::Refused(_) => false,
     }
 }
 
-fn refused(x: Handling) -> bool {
+// A replica's own vote to remove node 3.
+fn vote(state: DynamicHoneyBadger) -> DynamicHoneyBadger {
+    let r = state.vote_to_remove(3);
+    let outcome = r.outcome;
+    show::expect(1, cast(outcome));
+    r.state
+}
+
+// The first replica casts a vote of its own.
+fn vote_alone(f: Fleet) -> Fleet {
+    f.put(0, vote(f.replica(0)))
+}
+
+fn told(x: Handling) -> u8 {
     match x {
-        Handling::Quiet => false,
-        Handling::Faulty(_) => false,
-        Handling::Refused(_) => true,
+        Handling::Quiet => QUIET,
+        Handling::Faulty(_) => 1,
+        Handling::Refused(_) => REFUSED,
     }
+}
+
+// The state after a message that was to be answered in a way.
+fn after(step: u64, expected: u8, r: Handled) -> DynamicHoneyBadger {
+    let outcome = r.outcome;
+    show::expect(step, told(outcome) == expected);
+    r.state
+}
+
+// A message is received.
+fn hear(
+    state: DynamicHoneyBadger,
+    sender: u32,
+    expected: u8,
+    message: Written,
+) -> DynamicHoneyBadger {
+    let bytes = message.bytes;
+    after(
+        1,
+        expected,
+        state.handle_message(sender, batches::first(&bytes, message.len)),
+    )
+}
+
+// A due item is handed back.
+fn returned(state: DynamicHoneyBadger, item: Written) -> DynamicHoneyBadger {
+    let bytes = item.bytes;
+    after(
+        2,
+        QUIET,
+        due_item::handle_due_item(state, batches::first(&bytes, item.len)),
+    )
 }
 
 // The second replica receives a vote of node 4 and a part of node 5.
-fn receive(mut f: Fleet, candidate: PubKeyMap) -> Fleet {
-    let mut buf = [0u8; BYTES];
-    let n = batches::vote_message(&mut buf, 1, 4, Change::node_change(candidate));
-    let state = f.states[1];
-    let a = state.handle_message(4, batches::first(&buf, n));
-    let voted = a.outcome;
-    show::expect(1, quiet(voted));
-    let next = a.state;
-    let m = batches::part_message(&mut buf, 1, candidate, 5);
-    let b = next.handle_message(5, batches::first(&buf, m));
-    let stored = b.outcome;
-    show::expect(1, quiet(stored));
-    let last = b.state;
-    f.states[1] = last;
-    f
+fn receive(f: Fleet, candidate: PubKeyMap) -> Fleet {
+    let vote = batches::vote_message(1, 4, Change::node_change(candidate));
+    let voted = hear(f.replica(1), 4, QUIET, vote);
+    let part = batches::part_message(1, candidate, 5);
+    f.put(1, hear(voted, 5, QUIET, part))
 }
 
 // The third replica receives a message whose last byte is missing.
-fn receive_damaged(mut f: Fleet, candidate: PubKeyMap) -> Fleet {
-    let mut buf = [0u8; BYTES];
-    let n = batches::part_message(&mut buf, 1, candidate, 4);
-    let state = f.states[2];
-    let a = state.handle_message(4, batches::all_but_last(batches::first(&buf, n)));
-    let outcome = a.outcome;
-    show::expect(1, refused(outcome));
-    let next = a.state;
-    f.states[2] = next;
-    f
+fn receive_damaged(f: Fleet, candidate: PubKeyMap) -> Fleet {
+    let part = batches::part_message(1, candidate, 4);
+    f.put(2, hear(f.replica(2), 4, REFUSED, part.damaged()))
 }
 
 // The first replica's host hands back an ack that was due.
-fn hand_back(mut f: Fleet, candidate: PubKeyMap) -> Fleet {
-    let mut buf = [0u8; BYTES];
-    let n = batches::ack_message(&mut buf, 1, candidate, 1);
-    let state = f.states[0];
-    let a = due_item::handle_due_item(state, batches::first(&buf, n));
-    let outcome = a.outcome;
-    show::expect(2, quiet(outcome));
-    let next = a.state;
-    f.states[0] = next;
-    f
+fn hand_back(f: Fleet, candidate: PubKeyMap) -> Fleet {
+    let item = batches::ack_message(1, candidate, 1);
+    f.put(0, returned(f.replica(0), item))
+}
+
+// Between steps 1 and 2: own votes and messages.
+fn between(f: Fleet, candidate: PubKeyMap) -> Fleet {
+    let a = vote_alone(f);
+    let b = receive(a, candidate);
+    receive_damaged(b, candidate)
+}
+
+// Steps 2 and 3: the parts and the acks of key generation.
+fn generate(f: Fleet, candidate: PubKeyMap) -> Fleet {
+    let a = f.take(2, 0, batches::parts(1, candidate));
+    let b = hand_back(a, candidate);
+    b.take(3, 1, batches::acks(1, candidate))
 }
 
 // Steps 1 to 3: node 5 is voted in, and key generation with it runs and completes.
 pub(crate) fn grow(f: Fleet) -> Fleet {
     let candidate = batches::roster(5);
-    let a = elect(f, 1, 0, 0, Change::node_change(candidate));
-    let b = vote_alone(a);
-    let c = receive(b, candidate);
-    let d = receive_damaged(c, candidate);
-    let mut buf = [0u8; BYTES];
-    let n = batches::parts(&mut buf, 1, candidate);
-    let e = d.take(2, 0, batches::first(&buf, n));
-    let g = hand_back(e, candidate);
-    let m = batches::acks(&mut buf, 1, candidate);
-    g.take(3, 1, batches::first(&buf, m))
+    let a = f.take(1, 0, batches::votes(0, 2, Change::node_change(candidate)));
+    let b = between(a, candidate);
+    generate(b, candidate)
 }
 
 // Steps 4 to 6: a batch with a byte left over, a schedule, and node 3 is voted out.
 pub(crate) fn shrink(f: Fleet) -> Fleet {
-    let mut buf = [0u8; BYTES];
-    batches::nothing(&mut buf);
-    let a = f.take(4, 0, batches::first(&buf, 9));
-    let b = elect(a, 5, 3, 0, Change::schedule(EncryptionSchedule::Never));
-    elect(b, 6, 4, 2, Change::node_change(remaining()))
+    let a = f.take(4, 0, batches::nothing(9));
+    let b = a.take(
+        5,
+        0,
+        batches::votes(3, 2, Change::schedule(EncryptionSchedule::Never)),
+    );
+    b.take(6, 2, batches::votes(4, 2, Change::node_change(remaining())))
 }
 
 // The map without node 3.
@@ -172,41 +191,52 @@ fn remaining() -> PubKeyMap {
     node_change::without_node(batches::roster(5), 3)
 }
 
-// Step 7: a replica joins from the plan that the first replica's report gives.
-fn join(f: Fleet) -> Fleet {
+// How many bytes a plan has; none where there is no plan.
+fn plan_bytes(x: Planned) -> usize {
+    match x {
+        Planned::Upto(n) => n,
+        Planned::NoPlan => 0,
+        Planned::Refused(_) => 0,
+    }
+}
+
+// Node 7 starts from the plan that a report gives; a plan of no bytes is refused.
+fn start_joining(report: Batch) -> JoinStarted {
     let own = batches::node(7);
-    let report = f.report;
-    let first = f.states[0];
     let mut plan = [0u8; JoinPlan::BYTES];
-    let Planned::Upto(n) = report.join_plan(&mut plan, 1) else {
-        show::differ(7);
-        return f;
-    };
-    let r = DynamicHoneyBadger::new_joining(7, own.key, batches::first(&plan, n), DueList::LIMIT);
+    let n = plan_bytes(report.join_plan(&mut plan, 1));
+    DynamicHoneyBadger::new_joining(7, own.key, batches::first(&plan, n), DueList::LIMIT)
+}
+
+// One replica more, and whether it stands where the first stands.
+fn admit(f: Fleet, r: JoinStarted) -> Fleet {
     let outcome = r.outcome;
     let joiner = r.state;
-    if !accepted(outcome) {
-        show::differ(7);
-        return f;
+    show::expect(7, accepted(outcome));
+    if show::still_agree(7, true, 3, compare::shared_difference(f.replica(0), joiner)) {
+        show::joined(7);
+        fleet::tell_network(joiner);
     }
-    if !compare::same_shared(first, joiner) {
-        show::differ(7);
-        return f;
-    }
-    let counter = joiner.vote_counter;
-    let map = counter.pub_keys;
-    show::joined(7, counter.era, map);
     f.add(joiner)
 }
 
+// Step 7: a replica joins from the plan that the first replica's report gives.
+fn join(f: Fleet) -> Fleet {
+    let report = f.report;
+    admit(f, start_joining(report))
+}
+
 // Steps 7 to 10: a replica joins, a part of the leaving node is refused, key generation completes, and nothing is left to do.
-pub(crate) fn end(f: Fleet) {
+pub(crate) fn end(f: Fleet) -> Fleet {
     let a = join(f);
-    let mut buf = [0u8; BYTES];
-    let n = batches::one_part(&mut buf, 7, remaining(), 3);
-    let b = a.take(8, 0, batches::first(&buf, n));
-    let m = batches::parts_and_acks(&mut buf, 7, remaining());
-    let c = b.take(9, 0, batches::first(&buf, m));
-    let k = batches::nothing(&mut buf);
-    c.take(10, 0, batches::first(&buf, k));
+    let b = a.take(8, 0, batches::one_part(7, remaining(), 3));
+    let c = b.take(9, 0, batches::parts_and_acks(7, remaining()));
+    c.take(10, 0, batches::nothing(8))
+}
+
+// Steps 11 and 12: the vote of node 1 alone stays committed, and that of node 3, which has left, is a fault; with the vote of node 2 the schedule wins.
+pub(crate) fn wait(f: Fleet) {
+    let change = Change::schedule(EncryptionSchedule::EveryNthEpoch(2));
+    let a = f.take(11, 1, batches::votes(8, 3, change));
+    a.take(12, 2, batches::one_vote(8, 2, change));
 }

@@ -1,9 +1,10 @@
 // The lines of a season.
+use crate::compare::Difference;
 use libc::STDOUT_FILENO;
 use pub_key_map::PubKeyMap;
 
 // Era and roster, at the end of a line.
-fn show_network(era: u64, map: PubKeyMap) {
+pub(crate) fn network(era: u64, map: PubKeyMap) {
     io::write_all(STDOUT_FILENO, b" era ");
     io::print_decimal(STDOUT_FILENO, era);
     io::write_all(STDOUT_FILENO, b" roster ");
@@ -25,27 +26,59 @@ fn show_ids(map: PubKeyMap) {
     }
 }
 
-// All replicas answered the same; a refusal is shown by its number.
-pub(crate) fn agree(step: u64, refusal: u8, era: u64, map: PubKeyMap) {
+// All replicas answered the same; a refusal is shown by its number, and how many faults they all told.
+pub(crate) fn agree(step: u64, refusal: u8, faults: usize) {
     io::print_decimal(STDOUT_FILENO, step);
     io::write_all(STDOUT_FILENO, b" agree");
     if refusal != 0 {
         io::write_all(STDOUT_FILENO, b" refused ");
         io::print_decimal(STDOUT_FILENO, refusal as u64);
     }
-    show_network(era, map);
+    if faults != 0 {
+        io::write_all(STDOUT_FILENO, b" faults ");
+        io::print_decimal(STDOUT_FILENO, faults as u64);
+    }
 }
 
 // A replica joined, and stands where the others stand.
-pub(crate) fn joined(step: u64, era: u64, map: PubKeyMap) {
+pub(crate) fn joined(step: u64) {
     io::print_decimal(STDOUT_FILENO, step);
     io::write_all(STDOUT_FILENO, b" joined");
-    show_network(era, map);
 }
 
-pub(crate) fn differ(step: u64) {
+fn what(d: Difference) {
+    match d {
+        Difference::Nothing => io::write_all(STDOUT_FILENO, b"nothing"),
+        Difference::Refusal => io::write_all(STDOUT_FILENO, b"refusal"),
+        Difference::Report => io::write_all(STDOUT_FILENO, b"report"),
+        Difference::Faults => io::write_all(STDOUT_FILENO, b"faults"),
+        Difference::Era => io::write_all(STDOUT_FILENO, b"era"),
+        Difference::Roster => io::write_all(STDOUT_FILENO, b"roster"),
+        Difference::Votes => io::write_all(STDOUT_FILENO, b"votes"),
+        Difference::Params => io::write_all(STDOUT_FILENO, b"params"),
+        Difference::KeyGeneration => io::write_all(STDOUT_FILENO, b"key generation"),
+    }
+    ;
+}
+
+fn differ(step: u64, i: usize, d: Difference) {
     io::print_decimal(STDOUT_FILENO, step);
-    io::write_all(STDOUT_FILENO, b" differ\n");
+    io::write_all(STDOUT_FILENO, b" differ replica ");
+    io::print_decimal(STDOUT_FILENO, i as u64);
+    io::write_all(STDOUT_FILENO, b" in ");
+    what(d);
+    io::write_all(STDOUT_FILENO, b"\n");
+}
+
+// Whether all agree still, after replica i was compared with the first; the first difference of a step is said.
+pub(crate) fn still_agree(step: u64, agree: bool, i: usize, d: Difference) -> bool {
+    let Difference::Nothing = d else {
+        if agree {
+            differ(step, i, d);
+        }
+        return false;
+    };
+    agree
 }
 
 // Says so where a call behind a step did not answer as it had to; else nothing.
