@@ -1,17 +1,17 @@
 // The values of answers as text: faults, due items, recipe, votes, parts, and encoded values as bytes.
+use crate::fields::field;
 use crate::text::put;
 use crate::text::put_comma;
 use crate::text::put_first;
+use crate::text::put_named;
 use crate::text::put_number;
 use change::Change;
 use change::ChangeState;
 use due::DueItem;
 use due::DueKind;
 use due::DueList;
-use fault_log::AckFault;
 use fault_log::FaultKind;
 use fault_log::FaultLog;
-use fault_log::PartFault;
 use key_gen::KeyGen;
 use key_gen::Proposal;
 use params::Params;
@@ -22,40 +22,23 @@ use recipe::Share;
 use signed_votes::SignedVotes;
 use votes::SignedVote;
 
-fn put_part_kind(out: &mut [u8], at: usize, k: PartFault) -> usize {
-    match k {
-        PartFault::RowCount => put(out, at, b"SyncKeyGenPart.RowCount"),
-        PartFault::MultipleParts => put(out, at, b"SyncKeyGenPart.MultipleParts"),
-        PartFault::DecryptRow => put(out, at, b"SyncKeyGenPart.DecryptRow"),
-        PartFault::DeserializeRow => put(out, at, b"SyncKeyGenPart.DeserializeRow"),
-        PartFault::RowCommitment => put(out, at, b"SyncKeyGenPart.RowCommitment"),
-    }
-}
-
-fn put_ack_kind(out: &mut [u8], at: usize, k: AckFault) -> usize {
-    match k {
-        AckFault::ValueCount => put(out, at, b"SyncKeyGenAck.ValueCount"),
-        AckFault::MissingPart => put(out, at, b"SyncKeyGenAck.MissingPart"),
-        AckFault::DecryptValue => put(out, at, b"SyncKeyGenAck.DecryptValue"),
-        AckFault::DeserializeValue => put(out, at, b"SyncKeyGenAck.DeserializeValue"),
-        AckFault::ValueCommitment => put(out, at, b"SyncKeyGenAck.ValueCommitment"),
-    }
-}
-
+// The name of a kind of fault, by the kind's number.
 fn put_kind(out: &mut [u8], at: usize, k: FaultKind) -> usize {
-    match k {
-        FaultKind::InvalidVoteSignature => put(out, at, b"InvalidVoteSignature"),
-        FaultKind::InvalidCommittedVote => put(out, at, b"InvalidCommittedVote"),
-        FaultKind::UnexpectedDhbMessageEra => put(out, at, b"UnexpectedDhbMessageEra"),
-        FaultKind::InvalidKeyGenMessageSignature => put(out, at, b"InvalidKeyGenMessageSignature"),
-        FaultKind::UnexpectedKeyGenMessage => put(out, at, b"UnexpectedKeyGenMessage"),
-        FaultKind::TooManyKeyGenMessages => put(out, at, b"TooManyKeyGenMessages"),
-        FaultKind::InvalidKeyGenMessageEra => put(out, at, b"InvalidKeyGenMessageEra"),
-        FaultKind::UnexpectedKeyGenPart => put(out, at, b"UnexpectedKeyGenPart"),
-        FaultKind::UnexpectedKeyGenAck => put(out, at, b"UnexpectedKeyGenAck"),
-        FaultKind::SyncKeyGenPart(p) => put_part_kind(out, at, p),
-        FaultKind::SyncKeyGenAck(a) => put_ack_kind(out, at, a),
+    let n = k.number() as u64;
+    if n < 9 {
+        let names =
+            b"InvalidVoteSignature InvalidCommittedVote UnexpectedDhbMessageEra InvalidKeyGenMessageSignature \
+            UnexpectedKeyGenMessage TooManyKeyGenMessages InvalidKeyGenMessageEra UnexpectedKeyGenPart UnexpectedKeyGenAck";
+        return put(out, at, field(names, n));
     }
+    if n < 14 {
+        let names = b"RowCount MultipleParts DecryptRow DeserializeRow RowCommitment";
+        let a = put(out, at, b"SyncKeyGenPart.");
+        return put(out, a, field(names, n - 9));
+    }
+    let names = b"ValueCount MissingPart DecryptValue DeserializeValue ValueCommitment";
+    let a = put(out, at, b"SyncKeyGenAck.");
+    put(out, a, field(names, n - 14))
 }
 
 // A fault as `ID:KIND`.
@@ -86,10 +69,7 @@ pub(crate) fn put_faults(out: &mut [u8], at: usize, log: FaultLog) -> usize {
 fn put_due_kind(out: &mut [u8], at: usize, k: DueKind) -> usize {
     match k {
         DueKind::Part => put(out, at, b"part"),
-        DueKind::Ack(i) => {
-            let a = put(out, at, b"ack:");
-            put_number(out, a, i as u64)
-        }
+        DueKind::Ack(i) => put_named(out, at, b"ack:", i as u64),
     }
 }
 
@@ -97,8 +77,7 @@ fn put_due_kind(out: &mut [u8], at: usize, k: DueKind) -> usize {
 fn put_item(out: &mut [u8], at: usize, d: DueItem) -> usize {
     let kind = d.kind;
     let a = put_due_kind(out, at, kind);
-    let b = put(out, a, b"@");
-    put_number(out, b, d.era)
+    put_named(out, a, b"@", d.era)
 }
 
 // Due items in order; `-` for none.
@@ -192,28 +171,29 @@ pub(crate) fn put_recipe(out: &mut [u8], at: usize, r: Recipe) -> usize {
     }
 }
 
-pub(crate) fn put_map(out: &mut [u8], at: usize, map: PubKeyMap) -> usize {
+// Encoded values in hexadecimal digits, each behind a word.
+pub(crate) fn put_map(out: &mut [u8], at: usize, word: &[u8], map: PubKeyMap) -> usize {
     let mut buf = [0u8; 512];
     let n = pub_key_map::write_map(&mut buf, 0, map);
-    put_first(out, at, &buf, n)
+    put_first(out, at, word, &buf, n)
 }
 
-pub(crate) fn put_params(out: &mut [u8], at: usize, p: Params) -> usize {
+pub(crate) fn put_params(out: &mut [u8], at: usize, word: &[u8], p: Params) -> usize {
     let mut buf = [0u8; 64];
     let n = params::write_params(&mut buf, 0, p);
-    put_first(out, at, &buf, n)
+    put_first(out, at, word, &buf, n)
 }
 
-fn put_change(out: &mut [u8], at: usize, c: Change) -> usize {
+fn put_change(out: &mut [u8], at: usize, word: &[u8], c: Change) -> usize {
     let mut buf = [0u8; 512];
     let n = change::write_change(&mut buf, 0, c);
-    put_first(out, at, &buf, n)
+    put_first(out, at, word, &buf, n)
 }
 
-pub(crate) fn put_state(out: &mut [u8], at: usize, s: ChangeState) -> usize {
+pub(crate) fn put_state(out: &mut [u8], at: usize, word: &[u8], s: ChangeState) -> usize {
     let mut buf = [0u8; 512];
     let n = change::write_state(&mut buf, 0, s);
-    put_first(out, at, &buf, n)
+    put_first(out, at, word, &buf, n)
 }
 
 // A committed vote as `VOTER:NUMBER:CHANGE`.
@@ -221,10 +201,8 @@ fn put_vote(out: &mut [u8], at: usize, x: SignedVote) -> usize {
     let vote = x.vote;
     let change = vote.change;
     let a = put_number(out, at, x.voter as u64);
-    let b = put(out, a, b":");
-    let c = put_number(out, b, vote.num);
-    let d = put(out, c, b":");
-    put_change(out, d, change)
+    let b = put_named(out, a, b":", vote.num);
+    put_change(out, b, b":", change)
 }
 
 // Committed votes by ascending voter; `-` for none.
@@ -248,10 +226,9 @@ pub(crate) fn put_votes(out: &mut [u8], at: usize, vs: SignedVotes) -> usize {
 fn put_part(out: &mut [u8], at: usize, i: usize, p: Proposal) -> usize {
     let acks = p.acks;
     let a = put_number(out, at, i as u64);
-    let b = put(out, a, b":");
-    let c = put_number(out, b, p.commit);
-    let d = put(out, c, b":");
-    put_marked(out, d, acks)
+    let b = put_named(out, a, b":", p.commit);
+    let c = put(out, b, b":");
+    put_marked(out, c, acks)
 }
 
 // Recorded parts by ascending proposer; `-` for none.

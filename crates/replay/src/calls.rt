@@ -1,4 +1,5 @@
-// The calls of a log on one replica. Each answers one line; a line that is no call changes nothing.
+// The calls of a log on one replica. Each answers one line; a line that is no call changes nothing. The checker writes out a large value's type at
+// each step of a function that makes one, so those that make a replica or a host are short.
 use crate::answers::put_due;
 use crate::answers::put_fault;
 use crate::answers::put_faults;
@@ -6,28 +7,30 @@ use crate::answers::put_map;
 use crate::answers::put_params;
 use crate::answers::put_recipe;
 use crate::answers::put_state;
-use crate::fields::MOST;
-use crate::fields::MOST_PLACES;
-use crate::fields::Parsed;
-use crate::fields::ParsedId;
-use crate::fields::Unhexed;
-use crate::fields::bytes;
-use crate::fields::count;
-use crate::fields::equal;
-use crate::fields::field;
 use crate::fields::first as first_bytes;
-use crate::fields::node_id;
-use crate::fields::number;
+use crate::parse::Arrival;
+use crate::parse::Call;
+use crate::parse::Command;
+use crate::parse::OwnVote;
+use crate::parse::Start;
+use crate::parse::parse;
+use crate::queries::ask;
+use crate::queries::look_up;
 use crate::text::put;
-use crate::text::put_first;
-use crate::text::put_number;
+use crate::text::put_named;
+use crate::text::refused;
+use crate::text::say;
+use crate::text::say_first;
+use crate::text::say_word;
 use batch::Batch;
 use change::ChangeState;
 use due::DueList;
 use dynamic_honey_badger::DynamicHoneyBadger;
+use dynamic_honey_badger::Handled;
 use dynamic_honey_badger::Handling;
 use dynamic_honey_badger::VoteDone;
 use dynamic_honey_badger::Voted;
+use fault_log::FaultKind;
 use fault_log::FaultLog;
 use joining::StartOutcome;
 use libc::STDOUT_FILENO;
@@ -37,6 +40,7 @@ use process_output::BatchOutcome;
 use process_output::Processed;
 use pub_key_map::PubKeyMap;
 use recipe::Recipe;
+use votes::SignedVote;
 
 // A replica once one has started, and the last report once there is one.
 pub struct Host {
@@ -54,68 +58,44 @@ pub(crate) fn no_engine() {
     io::write_all(STDOUT_FILENO, b"no engine\n");
 }
 
-// The first n bytes of an answer, with a line feed.
-pub(crate) fn say(out: &mut [u8], n: usize) {
-    let m = put(out, n, b"\n");
-    if m <= out.len() {
-        io::write_all(STDOUT_FILENO, &out[0..m]);
-    }
+// The bytes of the message that broadcasts an own vote.
+fn say_cast(out: &mut [u8], vote: SignedVote) {
+    let mut buf = [0u8; 512];
+    let n = message::write_message(&mut buf, 0, Message::of_vote(vote));
+    say_first(out, b"vote ", &buf, n);
 }
 
-pub(crate) fn refused(out: &mut [u8], n: u8) {
-    let a = put(out, 0, b"refused ");
-    let b = put_number(out, a, n as u64);
-    say(out, b);
-}
-
-// What an own vote answers: the bytes of the message to broadcast.
+// What an own vote answers.
 fn say_vote(out: &mut [u8], r: Voted) {
     let outcome = r.outcome;
     let vote = r.vote;
     match outcome {
-        VoteDone::Cast => {
-            let mut buf = [0u8; 512];
-            let n = message::write_message(&mut buf, 0, Message::of_vote(vote));
-            let a = put(out, 0, b"vote ");
-            let b = put_first(out, a, &buf, n);
-            say(out, b);
-        }
-        VoteDone::Nothing => {
-            let a = put(out, 0, b"nothing");
-            say(out, a);
-        }
+        VoteDone::Cast => say_cast(out, vote),
+        VoteDone::Nothing => say_word(out, b"nothing"),
         VoteDone::Refused(n) => refused(out, n),
     }
 }
 
-// What a message answers; a fault is its sender's.
+// A fault of a message's sender.
+fn say_fault(out: &mut [u8], sender: u32, kind: FaultKind) {
+    let a = put(out, 0, b"fault ");
+    let b = put_fault(out, a, sender, kind);
+    say(out, b);
+}
+
+// What a message answers.
 fn say_handling(out: &mut [u8], sender: u32, outcome: Handling) {
     match outcome {
-        Handling::Quiet => {
-            let a = put(out, 0, b"handled");
-            say(out, a);
-        }
-        Handling::Faulty(k) => {
-            let a = put(out, 0, b"fault ");
-            let b = put_fault(out, a, sender, k);
-            say(out, b);
-        }
+        Handling::Quiet => say_word(out, b"handled"),
+        Handling::Faulty(k) => say_fault(out, sender, k),
         Handling::Refused(n) => refused(out, n),
     }
 }
 
-// A number behind a word.
-pub(crate) fn put_named(out: &mut [u8], at: usize, word: &[u8], x: u64) -> usize {
-    let a = put(out, at, word);
-    put_number(out, a, x)
-}
-
 // A map and params, each behind a space.
 pub(crate) fn put_keys(out: &mut [u8], at: usize, map: PubKeyMap, params: Params) -> usize {
-    let a = put(out, at, b" ");
-    let b = put_map(out, a, map);
-    let c = put(out, b, b" ");
-    put_params(out, c, params)
+    let a = put_map(out, at, b" ", map);
+    put_params(out, a, b" ", params)
 }
 
 // A report: its epoch, era, change, map and params.
@@ -125,9 +105,8 @@ fn put_report(out: &mut [u8], report: Batch) -> usize {
     let params = report.params;
     let a = put_named(out, 0, b"batch ", report.epoch);
     let b = put_named(out, a, b" ", report.era);
-    let c = put(out, b, b" ");
-    let d = put_state(out, c, change);
-    put_keys(out, d, map, params)
+    let c = put_state(out, b, b" ", change);
+    put_keys(out, c, map, params)
 }
 
 // What stands beside a report: faults and due items.
@@ -147,7 +126,7 @@ fn put_made(out: &mut [u8], at: usize, made: bool, recipe: Recipe) -> usize {
     put(out, a, b"-")
 }
 
-// What a batch answers: the report, and beside it faults, due items and the recipe.
+// What a batch that is not refused answers: the report, and beside it faults, due items and the recipe.
 fn say_batch(out: &mut [u8], r: Processed) {
     let report = r.batch;
     let faults = r.faults;
@@ -159,262 +138,180 @@ fn say_batch(out: &mut [u8], r: Processed) {
     say(out, c);
 }
 
+// Whether a batch was reported; says the answer.
+fn say_processed(out: &mut [u8], r: Processed) -> bool {
+    let outcome = r.outcome;
+    match outcome {
+        BatchOutcome::Reported => {
+            say_batch(out, r);
+            true
+        }
+        BatchOutcome::Refused(k) => {
+            refused(out, k);
+            false
+        }
+    }
+}
+
+// Whether a replica started; says the answer.
+fn say_start(out: &mut [u8], outcome: StartOutcome) -> bool {
+    match outcome {
+        StartOutcome::Accepted => {
+            say_word(out, b"started");
+            true
+        }
+        StartOutcome::Refused(k) => {
+            refused(out, k);
+            false
+        }
+    }
+}
+
+// The same of one that joins, with its due items.
+fn say_join(out: &mut [u8], outcome: StartOutcome, due: DueList) -> bool {
+    match outcome {
+        StartOutcome::Accepted => {
+            let a = put(out, 0, b"started due ");
+            let b = put_due(out, a, due);
+            say(out, b);
+            true
+        }
+        StartOutcome::Refused(k) => {
+            refused(out, k);
+            false
+        }
+    }
+}
+
+// A report that stands in until there is one.
+fn no_report(replica: DynamicHoneyBadger) -> Batch {
+    let counter = replica.vote_counter;
+    let pub_keys = counter.pub_keys;
+    let params = replica.params;
+    Batch {
+        epoch: 0,
+        era: 0,
+        change: ChangeState::none(),
+        pub_keys,
+        params,
+    }
+}
+
+fn cast(replica: DynamicHoneyBadger, v: OwnVote, bytes: &[u8]) -> Voted {
+    match v {
+        OwnVote::For(n) => replica.vote_for(first_bytes(bytes, n)),
+        OwnVote::Add(id, key) => replica.vote_to_add(id, key),
+        OwnVote::Remove(id) => replica.vote_to_remove(id),
+    }
+}
+
+fn handle(replica: DynamicHoneyBadger, a: Arrival, bytes: &[u8]) -> Handled {
+    match a {
+        Arrival::Message(sender, n) => replica.handle_message(sender, first_bytes(bytes, n)),
+        Arrival::Due(n) => due_item::handle_due_item(replica, first_bytes(bytes, n)),
+    }
+}
+
+// Whose fault it would be; a due item has no sender.
+fn sender_of(a: Arrival) -> u32 {
+    match a {
+        Arrival::Message(sender, _) => sender,
+        Arrival::Due(_) => 0,
+    }
+}
+
 impl Host {
     // No replica yet.
     pub(crate) fn new() -> Self {
         let none = DynamicHoneyBadger::new(0, 0, 0, b"", b"");
         let replica = none.state;
-        let counter = replica.vote_counter;
-        let pub_keys = counter.pub_keys;
-        let params = replica.params;
         Host {
             started: false,
             replica,
             reported: false,
-            report: Batch {
-                epoch: 0,
-                era: 0,
-                change: ChangeState::none(),
-                pub_keys,
-                params,
-            },
+            report: no_report(replica),
         }
     }
 
+    // The host of a replica that has started, with the last report, if it is one.
+    fn of(replica: DynamicHoneyBadger, reported: bool, report: Batch) -> Self {
+        Host {
+            started: true,
+            replica,
+            reported,
+            report,
+        }
+    }
+
+    fn with(self, replica: DynamicHoneyBadger) -> Self {
+        let report = self.report;
+        Host::of(replica, self.reported, report)
+    }
+
     // A replica that has started, with no report yet.
-    fn begin(mut self, replica: DynamicHoneyBadger) -> Self {
-        self.started = true;
-        self.replica = replica;
-        self.reported = false;
-        self
-    }
-
-    fn with(mut self, replica: DynamicHoneyBadger) -> Self {
-        self.replica = replica;
-        self
-    }
-
-    // new ID KEY ERA MAP PARAMS
-    fn call_new(self, line: &[u8], first: &mut [u8], second: &mut [u8], out: &mut [u8]) -> Self {
-        let ParsedId::Value(id) = node_id(field(line, 1)) else {
-            bad_line();
-            return self;
-        };
-        let Parsed::Value(key) = number(field(line, 2), MOST) else {
-            bad_line();
-            return self;
-        };
-        let Parsed::Value(era) = number(field(line, 3), MOST) else {
-            bad_line();
-            return self;
-        };
-        let Unhexed::Count(n) = bytes(field(line, 4), first) else {
-            bad_line();
-            return self;
-        };
-        let Unhexed::Count(m) = bytes(field(line, 5), second) else {
-            bad_line();
-            return self;
-        };
-        self.start(
-            id,
-            key,
-            era,
-            first_bytes(first, n),
-            first_bytes(second, m),
-            out,
-        )
+    fn begin(self, replica: DynamicHoneyBadger) -> Self {
+        let report = self.report;
+        Host::of(replica, false, report)
     }
 
     fn start(self, id: u32, key: u64, era: u64, map: &[u8], params: &[u8], out: &mut [u8]) -> Self {
         let r = DynamicHoneyBadger::new(id, key, era, map, params);
         let outcome = r.outcome;
-        let replica = r.state;
-        match outcome {
-            StartOutcome::Accepted => {
-                let a = put(out, 0, b"started");
-                say(out, a);
-                self.begin(replica)
-            }
-            StartOutcome::Refused(k) => {
-                refused(out, k);
-                self
-            }
+        if say_start(out, outcome) {
+            let replica = r.state;
+            return self.begin(replica);
         }
-    }
-
-    // join ID KEY PLAN DUE_PLACES
-    fn call_join(self, line: &[u8], first: &mut [u8], out: &mut [u8]) -> Self {
-        let ParsedId::Value(id) = node_id(field(line, 1)) else {
-            bad_line();
-            return self;
-        };
-        let Parsed::Value(key) = number(field(line, 2), MOST) else {
-            bad_line();
-            return self;
-        };
-        let Unhexed::Count(n) = bytes(field(line, 3), first) else {
-            bad_line();
-            return self;
-        };
-        let Parsed::Value(places) = number(field(line, 4), MOST_PLACES) else {
-            bad_line();
-            return self;
-        };
-        self.join(id, key, first_bytes(first, n), places as usize, out)
+        self
     }
 
     fn join(self, id: u32, key: u64, plan: &[u8], places: usize, out: &mut [u8]) -> Self {
         let r = DynamicHoneyBadger::new_joining(id, key, plan, places);
         let outcome = r.outcome;
-        let replica = r.state;
         let due = r.due;
-        match outcome {
-            StartOutcome::Accepted => {
-                let a = put(out, 0, b"started due ");
-                let b = put_due(out, a, due);
-                say(out, b);
-                self.begin(replica)
+        if say_join(out, outcome, due) {
+            let replica = r.state;
+            return self.begin(replica);
+        }
+        self
+    }
+
+    fn first_call(self, s: Start, first: &[u8], second: &[u8], out: &mut [u8]) -> Self {
+        match s {
+            Start::New(id, key, era, n, m) => {
+                let map = first_bytes(first, n);
+                self.start(id, key, era, map, first_bytes(second, m), out)
             }
-            StartOutcome::Refused(k) => {
-                refused(out, k);
-                self
+            Start::Join(id, key, n, places) => {
+                self.join(id, key, first_bytes(first, n), places, out)
             }
         }
     }
 
-    // vote CHANGE
-    fn call_vote(self, line: &[u8], first: &mut [u8], out: &mut [u8]) -> Self {
-        let Unhexed::Count(n) = bytes(field(line, 1), first) else {
-            bad_line();
-            return self;
-        };
-        self.vote(first_bytes(first, n), out)
-    }
-
-    fn vote(self, change: &[u8], out: &mut [u8]) -> Self {
-        if !self.started {
-            no_engine();
-            return self;
-        }
+    fn vote(self, v: OwnVote, bytes: &[u8], out: &mut [u8]) -> Self {
         let replica = self.replica;
-        let r = replica.vote_for(change);
-        let next = r.state;
+        let r = cast(replica, v, bytes);
         say_vote(out, r);
+        let next = r.state;
         self.with(next)
     }
 
-    // add ID KEY
-    fn call_add(self, line: &[u8], out: &mut [u8]) -> Self {
-        let ParsedId::Value(id) = node_id(field(line, 1)) else {
-            bad_line();
-            return self;
-        };
-        let Parsed::Value(key) = number(field(line, 2), MOST) else {
-            bad_line();
-            return self;
-        };
-        if !self.started {
-            no_engine();
-            return self;
-        }
+    fn receive(self, a: Arrival, bytes: &[u8], out: &mut [u8]) -> Self {
         let replica = self.replica;
-        let r = replica.vote_to_add(id, key);
-        let next = r.state;
-        say_vote(out, r);
-        self.with(next)
-    }
-
-    // remove ID
-    fn call_remove(self, line: &[u8], out: &mut [u8]) -> Self {
-        let ParsedId::Value(id) = node_id(field(line, 1)) else {
-            bad_line();
-            return self;
-        };
-        if !self.started {
-            no_engine();
-            return self;
-        }
-        let replica = self.replica;
-        let r = replica.vote_to_remove(id);
-        let next = r.state;
-        say_vote(out, r);
-        self.with(next)
-    }
-
-    // message SENDER MESSAGE
-    fn call_message(self, line: &[u8], first: &mut [u8], out: &mut [u8]) -> Self {
-        let ParsedId::Value(sender) = node_id(field(line, 1)) else {
-            bad_line();
-            return self;
-        };
-        let Unhexed::Count(n) = bytes(field(line, 2), first) else {
-            bad_line();
-            return self;
-        };
-        self.handle(sender, first_bytes(first, n), out)
-    }
-
-    fn handle(self, sender: u32, message: &[u8], out: &mut [u8]) -> Self {
-        if !self.started {
-            no_engine();
-            return self;
-        }
-        let replica = self.replica;
-        let r = replica.handle_message(sender, message);
+        let r = handle(replica, a, bytes);
         let outcome = r.outcome;
+        say_handling(out, sender_of(a), outcome);
         let next = r.state;
-        say_handling(out, sender, outcome);
         self.with(next)
     }
 
-    // due MESSAGE
-    fn call_due(self, line: &[u8], first: &mut [u8], out: &mut [u8]) -> Self {
-        let Unhexed::Count(n) = bytes(field(line, 1), first) else {
-            bad_line();
-            return self;
-        };
-        self.handle_due(first_bytes(first, n), out)
-    }
-
-    fn handle_due(self, message: &[u8], out: &mut [u8]) -> Self {
-        if !self.started {
-            no_engine();
-            return self;
+    // A refused batch keeps the last report.
+    fn processed(self, r: Processed, out: &mut [u8]) -> Self {
+        if say_processed(out, r) {
+            let next = r.state;
+            let report = r.batch;
+            return Host::of(next, true, report);
         }
-        let replica = self.replica;
-        let r = due_item::handle_due_item(replica, message);
-        let outcome = r.outcome;
-        let next = r.state;
-        say_handling(out, 0, outcome);
-        self.with(next)
-    }
-
-    // batch INNER BATCH VERDICTS FAULT_PLACES DUE_PLACES
-    fn call_batch(self, line: &[u8], first: &mut [u8], second: &mut [u8], out: &mut [u8]) -> Self {
-        let Parsed::Value(inner) = number(field(line, 1), MOST) else {
-            bad_line();
-            return self;
-        };
-        let Parsed::Value(faults) = number(field(line, 4), MOST_PLACES) else {
-            bad_line();
-            return self;
-        };
-        let Parsed::Value(due) = number(field(line, 5), MOST_PLACES) else {
-            bad_line();
-            return self;
-        };
-        let Unhexed::Count(n) = bytes(field(line, 2), first) else {
-            bad_line();
-            return self;
-        };
-        let Unhexed::Count(m) = bytes(field(line, 3), second) else {
-            bad_line();
-            return self;
-        };
-        let batch = first_bytes(first, n);
-        let verdicts = first_bytes(second, m);
-        self.process(inner, batch, verdicts, faults as usize, due as usize, out)
+        self
     }
 
     fn process(
@@ -422,100 +319,43 @@ impl Host {
         inner: u64,
         batch: &[u8],
         verdicts: &[u8],
-        fault_places: usize,
-        due_places: usize,
+        faults: usize,
+        due: usize,
         out: &mut [u8],
     ) -> Self {
+        let replica = self.replica;
+        let r = process_output::process_output(replica, inner, batch, verdicts, faults, due);
+        self.processed(r, out)
+    }
+
+    fn command(self, c: Command, first: &[u8], second: &[u8], out: &mut [u8]) -> Self {
         if !self.started {
             no_engine();
             return self;
         }
-        let replica = self.replica;
-        let r = process_output::process_output(
-            replica,
-            inner,
-            batch,
-            verdicts,
-            fault_places,
-            due_places,
-        );
-        self.processed(r, out)
-    }
-
-    // A refused batch keeps the last report.
-    fn processed(mut self, r: Processed, out: &mut [u8]) -> Self {
-        let outcome = r.outcome;
-        let next = r.state;
-        let report = r.batch;
-        match outcome {
-            BatchOutcome::Reported => {
-                say_batch(out, r);
-                self.reported = true;
-                self.report = report;
-                self.with(next)
-            }
-            BatchOutcome::Refused(k) => {
-                refused(out, k);
-                self
+        match c {
+            Command::Vote(v) => self.vote(v, first, out),
+            Command::Arrival(a) => self.receive(a, first, out),
+            Command::Batch(inner, n, m, faults, due) => {
+                let batch = first_bytes(first, n);
+                self.process(inner, batch, first_bytes(second, m), faults, due, out)
             }
         }
     }
 
-    // The calls that may change the replica.
-    fn change(
-        self,
-        line: &[u8],
-        n: u64,
-        first: &mut [u8],
-        second: &mut [u8],
-        out: &mut [u8],
-    ) -> Self {
-        let word = field(line, 0);
-        if n == 6 {
-            if equal(word, b"new") {
-                return self.call_new(line, first, second, out);
-            }
-            if equal(word, b"batch") {
-                return self.call_batch(line, first, second, out);
-            }
-        }
-        if n == 5 {
-            if equal(word, b"join") {
-                return self.call_join(line, first, out);
-            }
-        }
-        if n == 3 {
-            if equal(word, b"add") {
-                return self.call_add(line, out);
-            }
-            if equal(word, b"message") {
-                return self.call_message(line, first, out);
-            }
-        }
-        self.change_by_one(line, n, first, out)
-    }
-
-    // Those of one field.
-    fn change_by_one(self, line: &[u8], n: u64, first: &mut [u8], out: &mut [u8]) -> Self {
-        let word = field(line, 0);
-        if n == 2 {
-            if equal(word, b"vote") {
-                return self.call_vote(line, first, out);
-            }
-            if equal(word, b"remove") {
-                return self.call_remove(line, out);
-            }
-            if equal(word, b"due") {
-                return self.call_due(line, first, out);
-            }
-        }
-        if !crate::queries::query(self, line, n, first, out) {
-            bad_line();
+    fn answer_call(self, call: Call, first: &[u8], second: &[u8], out: &mut [u8]) -> Self {
+        match call {
+            Call::Start(s) => return self.first_call(s, first, second, out),
+            Call::Command(c) => return self.command(c, first, second, out),
+            Call::Query(q) => ask(self, q, out),
+            Call::Lookup(l) => look_up(l, first, out),
+            Call::Bad => bad_line(),
+            Call::Skipped => {}
         }
         self
     }
 
-    // Answers a line; an empty one, or one that begins with `#`, is skipped.
+    // Answers a line.
     pub(crate) fn answer(
         self,
         line: &[u8],
@@ -523,16 +363,7 @@ impl Host {
         second: &mut [u8],
         out: &mut [u8],
     ) -> Self {
-        if line.len() == 0 {
-            return self;
-        }
-        if line[0] == b'#' {
-            return self;
-        }
-        if 140000 < line.len() {
-            bad_line();
-            return self;
-        }
-        self.change(line, count(line), first, second, out)
+        let call = parse(line, first, second);
+        self.answer_call(call, first, second, out)
     }
 }

@@ -1,4 +1,5 @@
 // Cuts standard input into lines and hands each to the replica's host.
+ghost use mathlib.Core.Path.{_≡_};
 ghost use Prim.Native.Nat.{_≤_};
 ghost use lib.ListN.{length};
 use crate::calls::Host;
@@ -36,83 +37,119 @@ fn append(line: &mut [u8], n: usize, part: &[u8]) -> usize
     m
 }
 
-// What is held of the next line, and the host after the lines before it.
-pub struct Fed {
+// How far the input is taken: `held` bytes of a line, which is `whole` or not; of the last chunk the bytes from `at` to `filled` are still to
+// be taken; there is no `more` once the input has ended.
+pub struct Taken {
     pub held: usize,
-    pub host: Host,
-}
-
-// Takes a chunk of the input to the n bytes that are held of a line.
-fn feed(
-    line: &mut [u8],
-    n: usize,
-    chunk: &[u8],
-    start: Host,
-    first: &mut [u8],
-    second: &mut [u8],
-    out: &mut [u8],
-) -> Fed
-    requires { ⌜ n ≤ length (now line) ⌝ }
-    ensures { λ r. ⌜ r .held ≤ length (now (line .exit)) ⌝ }
-{
-    let mut host = start;
-    let mut m = n;
-    let mut at: usize = 0;
-    while at < chunk.len() {
-        let e = line_end(chunk, at);
-        m = append(line, m, &chunk[at..e]);
-        if e < chunk.len() {
-            at = e + 1;
-            host = host.answer(&line[0..m], first, second, out);
-            m = 0;
-        } else {
-            at = e;
-        }
-    }
-    Fed { held: m, host }
-}
-
-pub struct Turn {
+    pub whole: bool,
+    pub at: usize,
+    pub filled: usize,
     pub more: bool,
-    pub fed: Fed,
 }
 
-// Reads once. A last line without a line feed is a line.
-fn read_some(line: &mut [u8], f: Fed, first: &mut [u8], second: &mut [u8], out: &mut [u8]) -> Turn
-    requires { ⌜ f .held ≤ length (now line) ⌝ }
-    ensures { λ r. ⌜ r .fed .held ≤ length (now (line .exit)) ⌝ }
+// Takes what the chunk has of the line.
+fn take_rest(line: &mut [u8], chunk: &[u8], t: Taken, n: usize) -> Taken
+    requires { ⌜ (n ≤ length (now line)) × (t .at ≤ t .filled) × (t .filled ≤ length (now chunk)) ⌝ }
+    ensures { λ r. ⌜ (r .held ≤ length (now (line .exit))) × (r .at ≤ r .filled) × (r .filled ≤ length (now (chunk .entry))) ⌝ }
 {
-    let n = f.held;
-    let host = f.host;
-    let mut chunk = io::large_buffer();
-    let got = libc::read(STDIN_FILENO, &mut chunk);
-    if got <= 0 {
-        let last = host.answer(&line[0..n], first, second, out);
-        return Turn {
-            more: false,
-            fed: Fed {
-                held: 0,
-                host: last,
-            },
+    let at = t.at;
+    let filled = t.filled;
+    let e = line_end(&chunk[0..filled], at);
+    let held = append(line, n, &chunk[at..e]);
+    if e < filled {
+        return Taken {
+            held,
+            whole: true,
+            at: e + 1,
+            filled,
+            more: true,
         };
     }
-    let k = io::count(got, &chunk);
-    Turn {
+    Taken {
+        held,
+        whole: false,
+        at: e,
+        filled,
         more: true,
-        fed: feed(line, n, &chunk[..k], host, first, second, out),
     }
 }
 
-// Reads to the end of the input. A proved loop has to end, so it counts its turns down, from a number that no run uses up.
+// Reads a chunk. A last line without a line feed is a line.
+fn read_chunk(chunk: &mut [u8], n: usize) -> Taken
+    ensures { λ r. ⌜ (r .held ≡ n) × (r .at ≤ r .filled) × (r .filled ≤ length (now (chunk .exit))) ⌝ }
+{
+    let got = libc::read(STDIN_FILENO, chunk);
+    if got <= 0 {
+        return Taken {
+            held: n,
+            whole: true,
+            at: 0,
+            filled: 0,
+            more: false,
+        };
+    }
+    let filled = io::count(got, chunk);
+    Taken {
+        held: n,
+        whole: false,
+        at: 0,
+        filled,
+        more: true,
+    }
+}
+
+// How much of the next line is held: after a whole line nothing.
+fn begun(t: Taken) -> usize
+    ensures { λ r. ⌜ r ≤ t .held ⌝ }
+{
+    if t.whole { 0 } else { t.held }
+}
+
+// One turn: takes from the chunk where bytes are left, and else reads the next one.
+fn take_some(line: &mut [u8], chunk: &mut [u8], t: Taken) -> Taken
+    requires { ⌜ (t .held ≤ length (now line)) × (t .at ≤ t .filled) × (t .filled ≤ length (now chunk)) ⌝ }
+    ensures { λ r. ⌜ (r .held ≤ length (now (line .exit))) × (r .at ≤ r .filled) × (r .filled ≤ length (now (chunk .exit))) ⌝ }
+{
+    let n = begun(t);
+    if t.at < t.filled {
+        return take_rest(line, chunk, t, n);
+    }
+    read_chunk(chunk, n)
+}
+
+// The next line. A proved loop has to end, so it counts its turns down, from a number that no run uses up.
+fn next_line(line: &mut [u8], chunk: &mut [u8], from: Taken) -> Taken
+    requires { ⌜ (from .held ≤ length (now line)) × (from .at ≤ from .filled) × (from .filled ≤ length (now chunk)) ⌝ }
+    ensures { λ r. ⌜ (r .held ≤ length (now (line .exit))) × (r .at ≤ r .filled) × (r .filled ≤ length (now (chunk .exit))) ⌝ }
+{
+    let mut t = from;
+    let mut turns = u64::MAX;
+    while 0 < turns {
+        t = take_some(line, chunk, t);
+        if t.whole {
+            return t;
+        }
+        turns -= 1;
+    }
+    t
+}
+
+// Reads to the end of the input, with turns counted down as above.
 pub(crate) fn read_all(line: &mut [u8], first: &mut [u8], second: &mut [u8], out: &mut [u8]) {
-    let mut fed = Fed {
+    let mut chunk = io::large_buffer();
+    let mut host = Host::new();
+    let mut t = Taken {
         held: 0,
-        host: Host::new(),
+        whole: false,
+        at: 0,
+        filled: 0,
+        more: true,
     };
     let mut turns = u64::MAX;
     while 0 < turns {
-        let t = read_some(line, fed, first, second, out);
-        fed = t.fed;
+        t = next_line(line, &mut chunk, t);
+        let held = t.held;
+        host = host.answer(&line[0..held], first, second, out);
         if !t.more {
             return;
         }

@@ -2,14 +2,20 @@ use borrow.Author.Needs.{needs}
 use Prim.Native.Nat.{_≤_}
 use mathlib.Core.Path.{_≡_, _∙_}
 use lib.ListN.{length}
+use native.Mathlib.Omega.{arith}
 use Rattle.replay.proofs.lines.read_all.Statement.{statement}
 use Rattle.replay.proofs.lines.read_all.Tie as tie
 
 abbrev Inv-loop : tie.InvT-loop
-Inv-loop line₀ first₀ second₀ out₀ fed₀ turns₀ line first second out fed turns = (fed .held ≤ length line) × (length line ≡ length line₀) × (length first ≡ length first₀) × (length second ≡ length second₀) × (length out ≡ length out₀)
+Inv-loop line₀ first₀ second₀ out₀ chunk₀ host₀ t₀ turns₀ line first second out chunk host t turns =
+    (t .held ≤ length line) × (t .at ≤ t .filled) × (t .filled ≤ length chunk) × (length chunk ≡ 65536) × (length line ≡ length line₀) × (length first ≡ length first₀) × (length second ≡ length second₀) × (length out ≡ length out₀)
 
 abbrev μ-loop : tie.MeasureT-loop
-μ-loop line₀ first₀ second₀ out₀ fed₀ turns₀ line first second out fed turns = turns
+μ-loop line₀ first₀ second₀ out₀ chunk₀ host₀ t₀ turns₀ line first second out chunk host t turns =
+    turns
+
+large-buffer-requires : tie.Need-large-buffer-requires Inv-loop μ-loop
+large-buffer-requires c κs = search needs
 
 new-requires : tie.Need-new-requires Inv-loop μ-loop
 new-requires c κs = search needs
@@ -17,47 +23,51 @@ new-requires c κs = search needs
 loop-holds : tie.Need-loop-holds Inv-loop μ-loop
 loop-holds c = search needs
 
-read-some-requires : tie.Need-read-some-requires Inv-loop μ-loop
-read-some-requires c κs = search needs
+slice-aggregate-next-line : tie.Need-slice-aggregate-next-line Inv-loop μ-loop
+slice-aggregate-next-line c = search needs
+
+next-line-requires : tie.Need-next-line-requires Inv-loop μ-loop
+next-line-requires c κs = search needs
+
+sub-answer : tie.Need-sub-answer Inv-loop μ-loop
+sub-answer c = search needs
+
+part-answer-start : tie.Need-part-answer-start Inv-loop μ-loop
+part-answer-start c = search needs
+
+part-answer-end : tie.Need-part-answer-end Inv-loop μ-loop
+part-answer-end c = search needs
+
+answer-requires : tie.Need-answer-requires Inv-loop μ-loop
+answer-requires c κs = search needs
 
 same-length : tie.Need-same-length Inv-loop μ-loop
-same-length c =
-    let k = c .before .before .before .before .before .before .before .before .before .before .before .read-some .kept in
-    let v = c .before .before .before .before .before .before .before .before .before .before .before .before .before .before .before .before .before .loop .inv in
-    k .0 ∙ v .1
+same-length c = c .before .before .before .before .before .before .before .before .before .before .before .before .before .before .before .before .before .next-line .kept .0 ∙ c .before .before .before .before .before .before .before .before .before .before .before .before .before .before .before .before .before .before .before .before .before .loop .inv .4
 
 same-length-2 : tie.Need-same-length-2 Inv-loop μ-loop
-same-length-2 c =
-    let k = c .before .before .before .before .before .before .before .before .before .before .before .read-some .kept in
-    let v = c .before .before .before .before .before .before .before .before .before .before .before .before .before .before .before .before .before .loop .inv in
-    k .1 .1 .0 ∙ v .2
+same-length-2 c = c .before .before .before .before .before .before .before .before .answer .kept .1 .1 .0 ∙ c .before .before .before .before .before .before .before .before .before .before .before .before .before .before .before .before .before .before .before .before .before .loop .inv .5
 
 same-length-3 : tie.Need-same-length-3 Inv-loop μ-loop
-same-length-3 c =
-    let k = c .before .before .before .before .before .before .before .before .before .before .before .read-some .kept in
-    let v = c .before .before .before .before .before .before .before .before .before .before .before .before .before .before .before .before .before .loop .inv in
-    k .1 .1 .1 .0 ∙ v .3
+same-length-3 c = c .before .before .before .before .before .before .before .before .answer .kept .1 .1 .1 .0 ∙ c .before .before .before .before .before .before .before .before .before .before .before .before .before .before .before .before .before .before .before .before .before .loop .inv .6
 
 same-length-4 : tie.Need-same-length-4 Inv-loop μ-loop
-same-length-4 c =
-    let k = c .before .before .before .before .before .before .before .before .before .before .before .read-some .kept in
-    let v = c .before .before .before .before .before .before .before .before .before .before .before .before .before .before .before .before .before .loop .inv in
-    k .1 .1 .1 .1 .0 ∙ v .4
+same-length-4 c = c .before .before .before .before .before .before .before .before .answer .kept .1 .1 .1 .1 .0 ∙ c .before .before .before .before .before .before .before .before .before .before .before .before .before .before .before .before .before .before .before .before .before .loop .inv .7
 
 returns : tie.Need-returns Inv-loop μ-loop
 returns c = search needs
 
 sub-turns : tie.Need-sub-turns Inv-loop μ-loop
-sub-turns c = search needs
+sub-turns c = omega (arith, c .before .before .before .before .before .before .before .before .before .before .before .before .before .before .before .before .before .before .before .before .loop-test .taken)
 
 loop-less : tie.Need-loop-less Inv-loop μ-loop
-loop-less c = search needs
+loop-less c = omega (arith, c .before .before .before .before .before .before .before .before .before .before .before .before .before .before .before .before .before .before .before .before .loop-test .taken)
 
 loop-again : tie.Need-loop-again Inv-loop μ-loop
 loop-again c =
-    let k = c .before .before .before .before .before .before .before .before .before .before .before .read-some .kept in
-    let v = c .before .before .before .before .before .before .before .before .before .before .before .before .before .before .before .before .before .loop .inv in
-    (c .before .before .before .before .before .before .before .before .before .before .before .read-some .ensures, k .0 ∙ v .1, k .1 .1 .0 ∙ v .2, k .1 .1 .1 .0 ∙ v .3, k .1 .1 .1 .1 .0 ∙ v .4)
+    let n = c .before .before .before .before .before .before .before .before .before .before .before .before .before .before .before .before .before .next-line in
+    let k = c .before .before .before .before .before .before .before .before .answer .kept .1 .1 in
+    let v = c .before .before .before .before .before .before .before .before .before .before .before .before .before .before .before .before .before .before .before .before .before .loop .inv in
+    (n .ensures .0, n .ensures .1, n .ensures .2, n .kept .1 .0 ∙ v .3, n .kept .0 ∙ v .4, k .0 ∙ v .5, k .1 .0 ∙ v .6, k .1 .1 .0 ∙ v .7)
 
 same-length-5 : tie.Need-same-length-5 Inv-loop μ-loop
 same-length-5 c = search needs
@@ -80,9 +90,15 @@ read-all-spec =
     (tie.spec
     Inv-loop
     μ-loop
+    large-buffer-requires
     new-requires
     loop-holds
-    read-some-requires
+    slice-aggregate-next-line
+    next-line-requires
+    sub-answer
+    part-answer-start
+    part-answer-end
+    answer-requires
     same-length
     same-length-2
     same-length-3
