@@ -8,6 +8,8 @@ import wire
 
 LAST = 2**64 - 1
 FULL = (1024, 1025)
+# the calls that may change a state
+CHANGING = ("new", "join", "vote", "add", "remove", "message", "due", "batch")
 
 
 class Oracle:
@@ -26,15 +28,25 @@ class Oracle:
 
 
 class Season:
-    def __init__(self, oracle, seed, small=False):
-        """A small season has few stations, fewer calls, and shows the state now and then only: the sample is made of such."""
-        self.o, self.r, self.small = oracle, random.Random(seed), small
+    def __init__(self, oracle, seed, small=False, deep=False):
+        """A small season has few nodes, fewer calls, and shows the state now and then only: the sample is made of such.
+        A deep one shows after each accepted call everything that a log can show: the state, each pending vote, each stored message."""
+        self.o, self.r, self.small, self.deep = oracle, random.Random(seed), small, deep
         self.lines, self.answers = [], []
+        self.shown = set()  # the places of answers that a deep season adds
         self.last_era = None  # the era in which the own pending vote has the last number
 
     def calls(self):
         """How many calls a log has at least."""
         return 22 if self.small else 60
+
+    def said(self):
+        """How many lines it has so far, without those that a deep season adds."""
+        return len(self.lines) - len(self.shown)
+
+    def told(self, k):
+        """The last k answers, without those."""
+        return [a for i, a in enumerate(self.answers) if i not in self.shown][-k:]
 
     # -- lines ---------------------------------------------------------------------------------------------------------------
     def say(self, line, number=None):
@@ -46,6 +58,23 @@ class Season:
             a = "refused %s" % number if number != "free" else a
         elif a == "undefined":
             raise SystemExit("the oracle refuses a call that was built to be accepted: %s" % line[:4000])
+        self.lines.append(line)
+        self.answers.append(a)
+        if self.deep and a != "undefined" and not a.startswith("refused") and line.split(" ")[0] in CHANGING:
+            self.show_all()
+        return a
+
+    def show_all(self):
+        """Asks without a random number, so that a deep season is the plain one with more lines."""
+        self.show("state")
+        for word in ("pending", "stored"):
+            k = 0
+            while self.show("%s %d" % (word, k)) != "none":
+                k += 1
+
+    def show(self, line):
+        a = self.o.ask(line)
+        self.shown.add(len(self.answers))
         self.lines.append(line)
         self.answers.append(a)
         return a
@@ -129,7 +158,7 @@ class Season:
         return ("ack", proposer, [500 + j for j in range(n if values is None else values)])
 
     def key_message(self, i, m, damage=0.0):
-        """Signed by station i under its candidate or current key."""
+        """Signed by node i under its candidate or current key."""
         r = self.r
         sig = dict(self.candidate or []).get(i, dict(self.map).get(i, 1))
         if i in dict(self.map) and r.random() < 0.3:

@@ -150,8 +150,8 @@ impl Oracle {
                 guarded(|| Engine::log_schedule(epoch, &schedule)).unwrap_or_else(undefined)
             }
             (b"user", 3) => {
-                let (station, batch) = (id(f[1])?, bytes(f[2])?);
-                guarded(|| Engine::log_user(station, &batch)).unwrap_or_else(undefined)
+                let (node, batch) = (id(f[1])?, bytes(f[2])?);
+                guarded(|| Engine::log_user(node, &batch)).unwrap_or_else(undefined)
             }
             (b"state", 1) => self.ask(|engine, _| Ok(engine.log_state())),
             (b"counts", 1) if mode::raw() => self.ask(|engine, _| Ok(engine.counts())),

@@ -218,9 +218,9 @@ impl Engine {
         Ok(yes_no(read::<EncryptionSchedule>(schedule)?.use_on_epoch(epoch)))
     }
 
-    pub fn log_user(station: u32, batch: &[u8]) -> Answer<String> {
+    pub fn log_user(node: u32, batch: &[u8]) -> Answer<String> {
         let batch = read_batch(batch)?;
-        Ok(batch.get(&station).map_or("no".into(), |c| format!("yes {}", hex(&c.contrib))))
+        Ok(batch.get(&node).map_or("no".into(), |c| format!("yes {}", hex(&c.contrib))))
     }
 
     pub fn log_new(id: u32, key: u64, era: u64, map: &[u8], params: &[u8]) -> Answer<Self> {
@@ -228,7 +228,7 @@ impl Engine {
         map_within(&map)?;
         let params = read(params)?;
         within(key != 0)?;
-        // The gate's own share: there is one where this station is a validator.
+        // The gate's own share: there is one where this node is a validator.
         let share = if map.contains_key(&id) { Some(Default::default()) } else { None };
         let netinfo = Arc::new(NetworkInfo::new(id, share, 0.into(), map.keys()));
         Ok(DynamicHoneyBadger::new(SecretKey(key), map, netinfo, params, era, 0))

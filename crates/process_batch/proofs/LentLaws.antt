@@ -1,9 +1,11 @@
 -- What an answer puts into the lent lists: its faults and due items where it is a report, nothing where it is a refusal.
 -- Assumes nothing.
-use Prim.Native.Nat.{ℕ}
+use Prim.Native.Nat.{ℕ, _≤_}
 use mathlib.Core.Path.{_≡_, sym, ap, _∙_}
-use mathlib.Core.List.{List, map}
-use lib.ListN.{length}
+use mathlib.Core.List.{List, _++_, map}
+use lib.ListN.{length, drop}
+use lib.Seq.{take-all}
+use Rattle.bincode.specs.Outcome.{refused}
 use Rattle.bincode.specs.Sizes.{Sizes}
 use Rattle.fault_log.specs.declared.Fault.{Fault}
 use Rattle.fault_log.specs.FaultLog.{faultsOf}
@@ -14,7 +16,7 @@ use Rattle.process_output.specs.declared.BatchOutcome.{BatchOutcome}
 use Rattle.process_output.specs.declared.BatchOutcome.the-variants as outcome
 use Rattle.process_output.specs.declared.Processed.{Processed}
 use Rattle.process_output.specs.Process.{ProcessedOf, processed, processedOf, reportOf, saidBatch}
-use Rattle.process_batch.specs.Lent.{filled, shorter, lentCall, faultsIn, dueIn}
+use Rattle.process_batch.specs.Lent.{filled, shorter, lentCall, faultsIn, dueIn, FaultsFilled, DueFilled}
 use Rattle.process_batch.proofs.FillLaws.{filled-none}
 
 -- the places that the comparisons counted are those of the lent lists' call
@@ -48,3 +50,16 @@ module _ (r : Processed) where
     -- its due items are those of the due list
     pub due-written : (f : DueItem → ℕ) (old new : List ℕ) → new ≡ filled (map f (dueOf (r .due))) old → new ≡ filled (map f (dueIn (processedOf r .answer))) old
     due-written f old new w = w ∙ sym (ap (λ (o : BatchOutcome). filled (map f (dueIn (saidBatch o (reportOf r)))) old) e)
+
+-- what the contract says of a refusal: every lent list is as it was
+pub refused-faults : (n : ℕ) (ids ids′ kinds kinds′ : List ℕ) → FaultsFilled (refused n) ids ids′ kinds kinds′ → (ids′ ≡ ids) × (kinds′ ≡ kinds)
+refused-faults n ids ids′ kinds kinds′ p = (p .0 ∙ filled-none ids, p .1 ∙ filled-none kinds)
+
+pub refused-due : (n : ℕ) (kinds kinds′ indices indices′ eras eras′ : List ℕ) → DueFilled (refused n) kinds kinds′ indices indices′ eras eras′
+    → (kinds′ ≡ kinds) × (indices′ ≡ indices) × (eras′ ≡ eras)
+refused-due n kinds kinds′ indices indices′ eras eras′ p = (p .0 ∙ filled-none kinds, p .1 ∙ filled-none indices, p .2 ∙ filled-none eras)
+
+-- and of a report for which there is room: the list begins with what was reported, and is as it was behind it
+pub report-written : (xs old : List ℕ) → length xs ≤ length old → filled xs old ≡ xs ++ drop (length xs) old
+unfolding filled
+report-written xs old h = rw (take-all (length old) xs h)
