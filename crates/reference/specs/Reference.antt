@@ -2,7 +2,7 @@
 -- ascending voter, parts by ascending proposer, acknowledgers ascending.
 use Prim.Native.Nat.{ℕ}
 use mathlib.Core.List.{List, [], map}
-use Rattle.lists.specs.Lists.{Found, found, nothing}
+use Rattle.lists.specs.Lists.{Found, nothing}
 use Rattle.pub_key_map.specs.declared.Node.{Node}
 use Rattle.params.specs.declared.Params.{Params}
 use Rattle.votes.specs.Votes.{SignedVoteOf}

@@ -4,7 +4,7 @@ use mathlib.Core.List.{List, [], _∷_, _++_, map}
 use mathlib.Core.Bool.{Bool, true, false, not, cond, _&&_, _||_}
 use lib.ListN.{length}
 use lib.Dec.{ltb, leb, eqb}
-use Rattle.lists.specs.Lists.{Found, found, nothing, mapFound, lookup, insert, insertWithin, filter}
+use Rattle.lists.specs.Lists.{Found, found, nothing, lookup, insert, insertWithin, filter}
 use Rattle.bincode.specs.Read.{Read, value, refuse}
 use Rattle.bincode.specs.Outcome.{Outcome, done, refused}
 use Rattle.bincode.specs.Sizes.{Sizes}
@@ -18,7 +18,7 @@ use Rattle.params.specs.declared.Params.{Params}
 use Rattle.change.specs.Change.{ChangeOf, nodeChange, encryptionSchedule, ChangeStateOf, none, inProgress, complete, sameChange}
 use Rattle.votes.specs.Votes.{SignedVoteOf}
 use Rattle.winner.specs.Winner.{winner}
-use Rattle.sync_key_gen.specs.SyncKeyGen.{PartOf, AckOf}
+use Rattle.sync_key_gen.specs.SyncKeyGen.{PartOf}
 use Rattle.key_gen_message.specs.KeyGenMessage.{KeyGenMessageOf, part, ack, SignedKeyGenMsgOf}
 use Rattle.internal_contrib.specs.InternalContrib.{ContribOf, readBatch}
 use Rattle.batch.specs.Batch.{BatchOf}
