@@ -5,9 +5,8 @@ use mathlib.Core.Path.{_≡_, refl, sym, ap, _∙_}
 use mathlib.Core.List.{List, [], _∷_}
 use mathlib.Core.Bool.{Bool, true, false, not, cond, _&&_}
 use native.Mathlib.Omega.{arith}
-use lib.Dec.{ltb, eqb}
+use lib.Dec.{eqb}
 use lib.ListN.{length, getD}
-use borrow.Author.Tests.{ltb-true}
 use Rattle.lists.specs.Lists.{Found, found, nothing, lookup, insert, insertWithin, filter}
 use Rattle.lists.proofs.ListLaws.{false-true}
 use Rattle.bincode.specs.Sizes.{Sizes}
@@ -27,6 +26,7 @@ use Rattle.fault_log.specs.declared.FaultKind.the-variants.{SyncKeyGenPart, Syn
 use Rattle.fault_log.specs.declared.PartFault.the-variants.{RowCount, MultipleParts}
 use Rattle.fault_log.specs.declared.AckFault.the-variants.{ValueCount}
 use Rattle.key_gen_state.specs.KeyGenState.{KeyGenStateOf, raised, countedBy, senderPlace, countMessages}
+use Rattle.key_gen_state.proofs.CountLaws.{raised-le}
 use Rattle.key_gen_message.specs.KeyGenMessage.{KeyGenMessageOf, part, ack}
 use Rattle.node_change.specs.NodeChange.{idOf, isNot, withNode, withoutNode}
 use Rattle.dynamic_honey_badger.specs.State.{freshKeyGen}
@@ -130,13 +130,6 @@ module _ (z : Sizes) where
       n : ℕ
       n = length (g .key-gen .nodes)
 
-      raised-le : (c : ℕ) → c ≤ n + 2 → raised n c ≤ n + 2
-      raised-le c h = by (ltb c (n + 2)) refl
-        where
-          by : (b : Bool) → ltb c (n + 2) ≡ b → cond b (c + 1) c ≤ n + 2
-          by true e = omega (arith, ltb-true c (n + 2) e)
-          by false e = h
-
       go : (i : Found ℕ) → KeyGenFormed z (countedBy g i .state)
       go nothing = f
       go (found i) =
@@ -146,7 +139,7 @@ module _ (z : Sizes) where
             parts-formed = f .parts-formed;
             counts-within =
                 all-set (λ c. c ≤ n + 2) (g .counts) i (raised n (getD (g .counts) i 0)) (f .counts-within)
-                (raised-le (getD (g .counts) i 0) (all-getD (λ c. c ≤ n + 2) (g .counts) i 0 (f .counts-within) (omega arith)));
+                (raised-le n (getD (g .counts) i 0) (all-getD (λ c. c ≤ n + 2) (g .counts) i 0 (f .counts-within) (omega arith)));
           }
 
   -- key messages, with the counts as they are

@@ -8,14 +8,14 @@ use mathlib.Core.Bool.{Bool, true, false, cond}
 use native.Mathlib.Omega.{arith}
 use lib.Dec.{ltb}
 use lib.ListN.{length, getD, set}
-use borrow.Author.Tests.{ltb-true}
+use borrow.Author.Tests.{ltb-true, le-ltb}
 use Rattle.lists.specs.Lists.{Found, found, nothing}
 use Rattle.bincode.specs.Sizes.{Sizes}
 use Rattle.pub_key_map.specs.declared.Node.{Node}
 use Rattle.network_info.specs.NetworkInfo.{nodeIndex}
 use Rattle.network_info.proofs.IndexLaws.{index-found, index-unique}
 use Rattle.key_gen.specs.KeyGen.{nodeCount}
-use Rattle.key_gen_state.specs.KeyGenState.{KeyGenStateOf, CountedOf, placeBy, senderPlace, raised, countMessages}
+use Rattle.key_gen_state.specs.KeyGenState.{KeyGenStateOf, CountedOf, placeBy, senderPlace, rises, raised, countMessages}
 
 -- a sender's place goes by its index in the candidate map, then by that in the current one
 module _ (z : Sizes) (cur cand : List Node) (id : ℕ) where
@@ -78,6 +78,10 @@ same-place z cur cand a b i e f l =
     (λ q. let j : p .0 ≡ q .0 = omega (arith, p .2, q .2) in index-unique cur 0 (q .0) a b (p .1 ∙ ap found j) (q .1))
     (from z cur cand b i f))
     (from z cur cand a i e)
+
+-- a count of the number of nodes and two does not rise
+pub stops-rising : (n c : ℕ) → n + 2 ≤ c → rises n c ≡ false
+stops-rising n c h = le-ltb c (n + 2) h
 
 -- a count never passes the number of nodes and two
 pub raised-le : (n c : ℕ) → c ≤ n + 2 → raised n c ≤ n + 2

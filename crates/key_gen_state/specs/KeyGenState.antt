@@ -27,8 +27,11 @@ unfoldable pub senderPlace : Sizes → List Node → List Node → ℕ → Found
 senderPlace z current candidate id = placeBy z (nodeIndex candidate id) (nodeIndex current id)
 
 -- 01: a sender's count stops rising at n+2 of the new map
+abbrev pub rises : ℕ → ℕ → Bool
+rises n c = ltb c (n + 2)
+
 abbrev pub raised : ℕ → ℕ → ℕ
-raised n c = cond (ltb c (n + 2)) (c + 1) c
+raised n c = cond (rises n c) (c + 1) c
 
 pub record CountedOf : Type 0 where
   pub state : KeyGenStateOf
