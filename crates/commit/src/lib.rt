@@ -319,14 +319,11 @@ fn track(mut state: KeyGenState, m: SignedKeyGenMsg, verdict: u8) -> MessageDone
     let kind = message.kind;
     match kind {
         KeyGenKind::Part(commit) => {
-            let h = key_gen.handle_part(
-                m.id,
-                Part {
-                    commit,
-                    rows: handles,
-                },
-                verdict,
-            );
+            let part = Part {
+                commit,
+                rows: handles,
+            };
+            let h = key_gen.handle_part(m.id, part, verdict);
             let next = h.key_gen;
             let outcome = h.outcome;
             state.key_gen = next;
@@ -336,14 +333,11 @@ fn track(mut state: KeyGenState, m: SignedKeyGenMsg, verdict: u8) -> MessageDone
             }
         }
         KeyGenKind::Ack(proposer) => {
-            let h = key_gen.handle_ack(
-                m.id,
-                Ack {
-                    proposer,
-                    values: handles,
-                },
-                verdict,
-            );
+            let ack = Ack {
+                proposer,
+                values: handles,
+            };
+            let h = key_gen.handle_ack(m.id, ack, verdict);
             let next = h.key_gen;
             let outcome = h.outcome;
             state.key_gen = next;
