@@ -1,4 +1,4 @@
--- The batch call with the lists that the host lends: faults as ids and kinds, due items as kinds and eras, each filled from the first place on.
+-- 01: the lent lists of a batch call, one list of numbers a field: faults as ids and kinds, due items as kinds, proposers' indices and eras, each filled from the first place on.
 use Prim.Native.Nat.{ℕ}
 use mathlib.Core.Path.{_≡_}
 use mathlib.Core.List.{List, [], _++_, map}

@@ -29,8 +29,8 @@ pub number-first : (z : Sizes) (proposer : ℕ) (w : RefWork) (v : SignedVoteOf)
 unfolding refVote
 number-first z proposer w v e = rw e
 
--- a newer vote of another era is the proposer's fault, and the votes stay
-pub era-blames-proposer : (z : Sizes) (proposer : ℕ) (w : RefWork) (v : SignedVoteOf) → lookup byVoter (w .state .votes) (v .voter) ≡ nothing
+-- one that is not old, of another era, is the proposer's fault, and the votes stay
+pub era-blames-proposer : (z : Sizes) (proposer : ℕ) (w : RefWork) (v : SignedVoteOf) → isOld v (lookup byVoter (w .state .votes) (v .voter)) ≡ false
     → (v .vote .era ≡ w .state .era → ⊥) → refVote z proposer w v ≡ blamed proposer InvalidCommittedVote w
 unfolding refVote
 era-blames-proposer z proposer w v e h = rw (e, ne-eqb _ _ h)
