@@ -8,6 +8,9 @@ import wire
 
 LAST = 2**64 - 1
 FULL = (1024, 1025)
+# lengths of both lists that are long enough, and lengths of which one is too short
+ENOUGH = [FULL, FULL, (1025, 1025), (1024, 1026), (1500, 1025), (1024, 1999), (2000, 2000)]
+SHORT = [(1023, 1025), (1024, 1024), (0, 2000), (2000, 0), (1, 1), (1023, 2000), (2000, 1024)]
 # the calls that may change a state
 CHANGING = ("new", "join", "vote", "add", "remove", "message", "due", "batch")
 
@@ -32,6 +35,7 @@ class Season:
         """A small season has few nodes, fewer calls, and shows the state now and then only: the sample is made of such.
         A deep one shows after each accepted call everything that a log can show: the state, each pending vote, each stored message."""
         self.o, self.r, self.small, self.deep = oracle, random.Random(seed), small, deep
+        self.lengths = random.Random("lengths %d" % seed)  # apart, so that the sample, which has full lists alone, stays as it is
         self.lines, self.answers = [], []
         self.shown = set()  # the places of answers that a deep season adds
         self.last_era = None  # the era in which the own pending vote has the last number
@@ -180,7 +184,8 @@ class Season:
         return (era == self.era and self.candidate is not None and dict(self.map).get(i) == sig and i not in dict(self.candidate))
 
     # -- batches ---------------------------------------------------------------------------------------------------------------
-    def line(self, cs, verdicts, inner=None, places=FULL, raw=None):
+    def line(self, cs, verdicts, inner=None, places=None, raw=None):
+        places = places or (FULL if self.small else self.lengths.choice(ENOUGH))
         return "batch %d %s %s %d %d" % (self.inner if inner is None else inner, (raw if raw is not None else wire.batch(cs)).hex(),
                                          wire.hexed(bytes(verdicts)), *places)
 
@@ -204,6 +209,9 @@ class Season:
         return self.committed(self.line(cs, vs), number)
 
     def committed(self, line, number=None):
+        """A batch; now and then it was tried before with a list that is too short."""
+        if not self.small and self.lengths.random() < 0.1:
+            self.say(" ".join(line.split(" ")[:-2] + ["%d %d" % self.lengths.choice(SHORT)]), 1)
         before = self.era
         a = self.say(line, number)
         self.look()

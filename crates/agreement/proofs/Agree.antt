@@ -1,156 +1,130 @@
 -- Two nodes agree: from one start, or from starts with one shared part, the same batches leave the same shared part and get the same answers, whatever the own
 -- ids, keys and verdicts are, and whatever own votes, messages and due items come to either between the batches.
 -- Assumes nothing.
-use Prim.Native.Nat.{ℕ, _+_, _≤_}
-use mathlib.Core.Path.{_≡_, refl, sym, ap, _∙_}
-use mathlib.Core.Logic.{⊎-elim}
-use mathlib.Core.List.{List, [], _∷_}
-use mathlib.Core.Bool.{Bool, true, false, cond, _||_}
+use Prim.Native.Nat.{ℕ, _≤_}
+use mathlib.Core.Path.{_≡_, refl, sym, ap, _∙_, subst}
+use mathlib.Core.List.{List, []}
+use mathlib.Core.Bool.{Bool, true, false, cond}
 use native.Mathlib.Omega.{arith}
-use lib.Dec.{eqb}
+use Rattle.lists.specs.Lists.{found, nothing}
 use Rattle.bincode.specs.Read.{Read, value, refuse, whole}
-use Rattle.bincode.specs.Outcome.{done, refused}
+use Rattle.bincode.specs.Outcome.{Outcome, done, refused}
 use Rattle.bincode.specs.Numbers.{fixed}
 use Rattle.bincode.specs.Sizes.{Sizes, base}
-use Rattle.bincode.specs.Stands.{All}
-use Rattle.bincode.proofs.ReadLaws.{same-value}
 use Rattle.pub_key_map.specs.declared.Node.{Node}
 use Rattle.pub_key_map.specs.PubKeyMap.{readMap}
 use Rattle.params.specs.declared.Params.{Params}
 use Rattle.params.specs.Params.{readParams}
 use Rattle.change.specs.Change.{nodeChange, encryptionSchedule, ChangeStateOf, none, inProgress, complete}
-use Rattle.join_plan.specs.JoinPlan.{PlanOf}
-use Rattle.joining.specs.Starting.{reading, isEmpty, keyRow2, joinChecked, startMap, startChecked}
-use Rattle.internal_contrib.specs.InternalContrib.{ContribOf, readBatch}
-use Rattle.dynamic_honey_badger.specs.Asked.{row5}
-use Rattle.dynamic_honey_badger.specs.State.{StateOf, eraOf, keyGenFor, opened, startedFrom, started, Joined, joinedBy, joinedWith, joinedFrom, joined}
-use Rattle.commit.specs.Steps.{committed}
-use Rattle.process_output.specs.Refusals.{batchRow4, batchRow6, batchRow7}
-use Rattle.process_output.specs.Process.{BatchCall, ProcessedOf, denied, finished, processedContribs, processedRead, processed}
+use Rattle.join_plan.specs.JoinPlan.{PlanOf, readPlan}
+use Rattle.joining.specs.Starting.{reading, isEmpty, keyRow2, joinRow1, joinRow8, joinRow9, joinRow10, joinPlan, joinChecked, startMap, startChecked}
+use Rattle.dynamic_honey_badger.specs.State.{StateOf, keyGenFor, opened, startedFrom, started, joinedBy, joinedWith, joinedFrom, joined}
 use Rattle.reference.specs.Reference.{RefState, openRef}
-use Rattle.reference.specs.Step.{SharedBatch, refRun, refAnswers}
-use Rattle.agreement.specs.Shared.{refOf, isPassed, planCandidate, planRef}
-use Rattle.agreement.specs.Calls.{Call, batch-call, vote-call, add-call, remove-call, message-call, due-call, after, run, unlessPassed, asShared, sharedBatches, answers, givenBatches, Full}
-use Rattle.agreement.proofs.CountLaws.{reading-refuses}
+use Rattle.reference.specs.Step.{refRun, refAnswers}
+use Rattle.agreement.specs.Shared.{refOf, planCandidate, planRef}
+use Rattle.agreement.specs.Calls.{Call, sharedBatches, answers, Start, new-start, join-start, joinedState, startState}
+use Rattle.agreement.specs.Claim.{openedBy, plannedBy, refStart, FollowsFrom, FollowsStart, Agree}
 use Rattle.agreement.proofs.Follow.{follows}
 
--- not both a result and a refusal
 module _ {A : Type 0} where
+  -- not both a result and a refusal
   pub done-refused : {a : A} {n : ℕ} → refused n ≡ done a → ⊥
   done-refused p = let z : _≡_ {A = ℕ} 0 1 = cc in omega arith
 
+  -- what is found, and what is not
+  pub found-same : {a b : A} → found a ≡ found b → a ≡ b
+  found-same e = cc
+
+  pub not-found : {a : A} → nothing ≡ found a → ⊥
+  not-found e = let z : _≡_ {A = ℕ} 0 1 = cc in omega arith
+
 -- an accepted start by `new` opens with the map and parameters that were read, whatever id and key are
-module _ (z : Sizes) (era : ℕ) (map params : List ℕ) where
-  pub record Opens (r : RefState) : Type 0 where
-    pub nodes : List Node
-    pub map-end : ℕ
-    pub map-read : whole (readMap fixed z map) map ≡ value nodes map-end
-    pub settings : Params
-    pub params-end : ℕ
-    pub params-read : whole (readParams fixed params) params ≡ value settings params-end
-    pub opens : r ≡ openRef era nodes settings
+new-opens : (z : Sizes) (id key era : ℕ) (map params : List ℕ) (s : StateOf) → started z id key era map params ≡ done s
+    → openedBy era (whole (readMap fixed z map) map) (whole (readParams fixed params) params) ≡ found (refOf s)
+unfolding started startChecked startMap
+new-opens z id key era map params s = go (whole (readMap fixed z map) map) (whole (readParams fixed params) params)
+  where
+    accepted : (ns : List Node) (p : Params) (a b : Bool)
+        → startedFrom id key era (cond a (refused 2) (cond b (refused 8) (done (record { keys = ns; params = p })))) ≡ done s → openRef era ns p ≡ refOf s
+    accepted ns p true b e = absurd (done-refused e)
+    accepted ns p false true e = absurd (done-refused e)
+    accepted ns p false false e = let q : opened id key era ns p ≡ s = cc in ap refOf q
 
-  pub new-opens : (id key : ℕ) (s : StateOf) → started z id key era map params ≡ done s → Opens (refOf s)
-  unfolding started startChecked startMap
-  new-opens id key s = go (whole (readMap fixed z map) map) refl (whole (readParams fixed params) params) refl
-    where
-      accepted : (ns : List Node) (p : Params) (a b : Bool)
-          → startedFrom id key era (cond a (refused 2) (cond b (refused 8) (done (record { keys = ns; params = p })))) ≡ done s → refOf s ≡ openRef era ns p
-      accepted ns p true b e = absurd (done-refused e)
-      accepted ns p false true e = absurd (done-refused e)
-      accepted ns p false false e = let q : opened id key era ns p ≡ s = cc in ap refOf (sym q)
+    go : (x : Read (List Node)) (y : Read Params) → startedFrom id key era (reading x λ ns. reading y λ p. startMap key ns p) ≡ done s → openedBy era x y ≡ found (refOf s)
+    go (refuse n) y e = absurd (done-refused e)
+    go (value ns c) (refuse n) e = absurd (done-refused e)
+    go (value ns c) (value p d) e = ap found (accepted ns p (keyRow2 key) (isEmpty ns) e)
 
-      go : (x : Read (List Node)) → whole (readMap fixed z map) map ≡ x → (y : Read Params) → whole (readParams fixed params) params ≡ y
-          → startedFrom id key era (reading x λ ns. reading y λ p. startMap key ns p) ≡ done s → Opens (refOf s)
-      go (refuse n) f y g e = absurd (done-refused e)
-      go (value ns c) f (refuse n) g e = absurd (done-refused e)
-      go (value ns c) f (value p d) g e =
-          record { nodes = ns; map-end = c; map-read = f; settings = p; params-end = d; params-read = g; opens = accepted ns p (keyRow2 key) (isEmpty ns) e }
-
-  -- two accepted starts with one era, map and parameters have one shared part
-  pub one-start : (id key id′ key′ : ℕ) (s t : StateOf) → started z id key era map params ≡ done s → started z id′ key′ era map params ≡ done t → refOf s ≡ refOf t
-  one-start id key id′ key′ s t e f =
-      let a = new-opens id key s e in
-      let b = new-opens id′ key′ t f in
-      let ns : a .nodes ≡ b .nodes = same-value _ (a .map-read) (b .map-read) in
-      let p : a .settings ≡ b .settings = same-value _ (a .params-read) (b .params-read) in
-      a .opens ∙ (λ i. openRef era (ns i) (p i)) ∙ sym (b .opens)
-
--- an accepted joining starts at the reference state of its plan
-pub joined-start : (z : Sizes) (places id key : ℕ) (plan : List ℕ) (p : PlanOf) (j : Joined)
-    → joinChecked z places id key plan ≡ done p → joined z places id key plan ≡ done j → refOf (j .state) ≡ planRef p
-unfolding joined joinedWith keyGenFor
-joined-start z places id key plan p j e f =
-    let g : done (joinedWith z id key p) ≡ done j = sym (ap (joinedFrom z id key) e) ∙ f in
-    let h : joinedWith z id key p ≡ j = cc in
-    ap (λ (x : Joined). refOf (x .state)) (sym h) ∙ go (p .change)
+-- a joiner starts at the reference state of its plan, whatever id and key are
+joined-opens : (z : Sizes) (id key : ℕ) (p : PlanOf) → planRef p ≡ refOf (joinedWith z id key p .state)
+unfolding joinedWith keyGenFor
+joined-opens z id key p = go (p .change)
   where
     go : (c : ChangeStateOf)
-        → refOf (joinedBy z id (p .era) c (opened id key (p .era) (p .keys) (p .params)) .state)
-        ≡ record { era = p .era; nodes = p .keys; params = p .params; votes = []; candidate = planCandidate c }
+        → record { era = p .era; nodes = p .keys; params = p .params; votes = []; candidate = planCandidate c }
+        ≡ refOf (joinedBy z id (p .era) c (opened id key (p .era) (p .keys) (p .params)) .state)
     go (inProgress (nodeChange ns)) = refl
     go (inProgress (encryptionSchedule x)) = refl
     go (complete c) = refl
     go none = refl
 
--- what is claimed of two nodes and their lists of calls: the same shared part after them, and the same answers
-abbrev pub Agree : Sizes → StateOf → List Call → StateOf → List Call → Type 0
-Agree z s cs t ds = (refOf (run z s cs) ≡ refOf (run z t ds)) × (answers z s cs ≡ answers z t ds)
+-- an accepted plan was read, and has no empty map, nor one in progress
+pub accepted-plan : (z : Sizes) (places id key : ℕ) (plan : List ℕ) (p : PlanOf) → joinChecked z places id key plan ≡ done p
+    → (c : ℕ) × (whole (readPlan fixed z plan) plan ≡ value p c) × (joinRow8 p ≡ false)
+unfolding joinChecked joinPlan
+accepted-plan z places id key plan p = go (joinRow1 z places) (whole (readPlan fixed z plan) plan)
+  where
+    rows : (q : PlanOf) (c : ℕ) (r2 r8 : Bool) → joinRow8 q ≡ r8 → (r9 r10 : Bool)
+        → cond r2 (refused 2) (cond r8 (refused 8) (cond r9 (refused 9) (cond r10 (refused 10) (done q)))) ≡ done p → (d : ℕ) × (value q c ≡ value p d) × (joinRow8 p ≡ false)
+    rows q c true r8 h r9 r10 e = absurd (done-refused e)
+    rows q c false true h r9 r10 e = absurd (done-refused e)
+    rows q c false false h true r10 e = absurd (done-refused e)
+    rows q c false false h false true e = absurd (done-refused e)
+    rows q c false false h false false e = let t : q ≡ p = cc in (c, ap (λ (x : PlanOf). value x c) t, ap joinRow8 (sym t) ∙ h)
 
-module _ (z : Sizes) where
-  -- a batch call with full-length buffers and well-formed verdicts is not passed over
-  pub full-shared : (s : StateOf) (b : BatchCall) → Full z (batch-call b) → isPassed (processed z s b .answer) ≡ false
-  unfolding processed processedContribs
-  full-shared s b full = rw (full .0) (go (readBatch z (b .bytes)) refl)
-    where
-      rows : (cs : List ContribOf) (r4 r5 r6 r7 : Bool) → r4 ≡ false
-          → isPassed
-          (cond {A = ProcessedOf} r4 (denied s 4)
-          (cond r5 (denied s 5) (cond r6 (denied s 6) (cond r7 (denied s 7) (finished z s (eraOf s + b .inner) (committed z s (b .verdicts) cs))))) .answer)
-          ≡ false
-      rows cs true r5 r6 r7 e = e
-      rows cs false true r6 r7 e = refl
-      rows cs false false true r7 e = refl
-      rows cs false false false true e = refl
-      rows cs false false false false e = refl
+    go : (r1 : Bool) (x : Read PlanOf) → cond r1 (refused 1) (reading x (joinPlan id key)) ≡ done p → (c : ℕ) × (x ≡ value p c) × (joinRow8 p ≡ false)
+    go true x e = absurd (done-refused e)
+    go false (refuse n) e = absurd (done-refused e)
+    go false (value q c) e = rows q c (keyRow2 key) (joinRow8 q) refl (joinRow9 id q) (joinRow10 q) e
 
-      go : (x : Read (List ContribOf)) → readBatch z (b .bytes) ≡ x → isPassed (processedRead z s b x .answer) ≡ false
-      go (value cs c) p = rows cs (batchRow4 cs (b .verdicts)) (row5 (eraOf s + b .inner)) (batchRow6 s cs) (batchRow7 z s (b .verdicts) cs) (full .1 cs c p)
-      go (refuse n) p =
-          ⊎-elim (λ e. ap (λ (k : ℕ). eqb k 1 || eqb k 4) e) (λ e. ap (λ (k : ℕ). eqb k 1 || eqb k 4) e) (reading-refuses z (b .bytes) n p)
+-- an accepted start opens the reference state that its shared bytes say
+pub start-opens : (z : Sizes) (start : Start) (s : StateOf) → startState z start ≡ done s → refStart z start ≡ found (refOf s)
+unfolding refStart joined
+start-opens z (new-start id key era map params) s e = new-opens z id key era map params s e
+start-opens z (join-start places id key plan) s e = go (joinChecked z places id key plan) refl e
+  where
+    go : (x : Outcome PlanOf) → joinChecked z places id key plan ≡ x → joinedState (joinedFrom z id key x) ≡ done s → plannedBy (whole (readPlan fixed z plan) plan) ≡ found (refOf s)
+    go (refused n) f g = absurd (done-refused g)
+    go (done p) f g =
+        let q : joinedWith z id key p .state ≡ s = cc in
+        ap plannedBy (accepted-plan z places id key plan p f .1) ∙ ap found (joined-opens z id key p ∙ ap refOf q)
 
-  -- so all batches of such a list are shared
-  pub none-passed : (cs : List Call) (s : StateOf) → All (Full z) cs → sharedBatches z s cs ≡ givenBatches cs
-  unfolding sharedBatches givenBatches
-  none-passed [] s full = refl
-  none-passed (batch-call b ∷ cs) s full =
-      let s′ : StateOf = processed z s b .state in
-      ap (λ (p : Bool). unlessPassed p (asShared b) (sharedBatches z s′ cs)) (full-shared s b (full .0))
-      ∙ ap (λ (bs : List SharedBatch). asShared b ∷ bs) (none-passed cs s′ (full .1))
-  none-passed (vote-call bytes ∷ cs) s full = none-passed cs (after z s (vote-call bytes)) (full .1)
-  none-passed (add-call id key ∷ cs) s full = none-passed cs (after z s (add-call id key)) (full .1)
-  none-passed (remove-call id ∷ cs) s full = none-passed cs (after z s (remove-call id)) (full .1)
-  none-passed (message-call sender bytes ∷ cs) s full = none-passed cs (after z s (message-call sender bytes)) (full .1)
-  none-passed (due-call bytes ∷ cs) s full = none-passed cs (after z s (due-call bytes)) (full .1)
+-- two nodes that follow one reference state, with the same shared batches, agree
+pub follow-one : (z : Sizes) (r : RefState) (s : StateOf) (cs : List Call) (t : StateOf) (ds : List Call) → FollowsFrom z r s cs → FollowsFrom z r t ds
+    → sharedBatches z s cs ≡ sharedBatches z t ds → Agree z s cs t ds
+follow-one z r s cs t ds f g e = (f .0 ∙ ap (refRun z r) e ∙ sym (g .0), f .1 ∙ ap (refAnswers z r) e ∙ sym (g .1))
 
-  module _ (fits : z .items ≤ z .faults) where
-    -- two nodes with one shared part and the same shared batches agree
-    pub agree : (cs ds : List Call) (s t : StateOf) → refOf s ≡ refOf t → sharedBatches z s cs ≡ sharedBatches z t ds → Agree z s cs t ds
-    agree cs ds s t e f =
-        let a = follows z fits cs s in
-        let b = follows z fits ds t in (
-          a .0 ∙ (λ i. refRun z (e i) (f i)) ∙ sym (b .0),
-          a .1 ∙ (λ i. refAnswers z (e i) (f i)) ∙ sym (b .1),
-        )
+module _ (z : Sizes) (fits : z .items ≤ z .faults) where
+  -- from an accepted start on, a node follows the reference state that the start opens
+  pub start-follows : (start : Start) (s : StateOf) → startState z start ≡ done s → (cs : List Call) → FollowsStart z start s cs
+  start-follows start s e cs = record { reference = refOf s; opens = start-opens z start s e; follows = follows z fits cs s }
 
-    -- the same, where the batches that are given are the same, with full-length buffers and well-formed verdicts
-    pub agree-full : (cs ds : List Call) (s t : StateOf) → refOf s ≡ refOf t → All (Full z) cs → All (Full z) ds → givenBatches cs ≡ givenBatches ds → Agree z s cs t ds
-    agree-full cs ds s t e f g h = agree cs ds s t e (none-passed cs s f ∙ h ∙ sym (none-passed ds t g))
+  -- whatever that is found to be
+  pub opened-follows : (start : Start) (s : StateOf) → startState z start ≡ done s → (r : RefState) → refStart z start ≡ found r → (cs : List Call) → FollowsFrom z r s cs
+  opened-follows start s e r opens cs =
+      let a : FollowsStart z start s cs = start-follows start s e cs in
+      subst (λ (x : RefState). FollowsFrom z x s cs) (found-same (sym (a .opens) ∙ opens)) (a .follows)
 
-    -- two nodes that `new` started with one era, map and parameters, given the same batches, agree
-    pub agree-given : (id key id′ key′ era : ℕ) (map params : List ℕ) (s t : StateOf) → started z id key era map params ≡ done s → started z id′ key′ era map params ≡ done t
-        → (cs ds : List Call) → All (Full z) cs → All (Full z) ds → givenBatches cs ≡ givenBatches ds → Agree z s cs t ds
-    agree-given id key id′ key′ era map params s t a b cs ds = agree-full cs ds s t (one-start z era map params id key id′ key′ s t a b)
+  -- two nodes whose starts open one reference state, with the same shared batches, agree
+  pub agree : (start start′ : Start) (s t : StateOf) → startState z start ≡ done s → startState z start′ ≡ done t → refStart z start ≡ refStart z start′
+      → (cs ds : List Call) → sharedBatches z s cs ≡ sharedBatches z t ds → Agree z s cs t ds
+  agree start start′ s t e f same cs ds =
+      let a : FollowsStart z start s cs = start-follows start s e cs in
+      follow-one z (a .reference) s cs t ds (a .follows) (opened-follows start′ t f (a .reference) (sym same ∙ a .opens) ds)
+
+  -- and so do two in any states with one shared part
+  pub agree-shared : (cs ds : List Call) (s t : StateOf) → refOf s ≡ refOf t → sharedBatches z s cs ≡ sharedBatches z t ds → Agree z s cs t ds
+  agree-shared cs ds s t e = follow-one z (refOf s) s cs t ds (follows z fits cs s) (subst (λ (r : RefState). FollowsFrom z r t ds) (sym e) (follows z fits ds t))
 
 -- the sizes of 01 have room for a fault of each vote and key message
 pub base-fits : base .items ≤ base .faults

@@ -1,8 +1,8 @@
 -- Demand 3, at the sizes of 01: what docs/AGREEMENT.md says in words.
 -- Assumes nothing.
 use Prim.Native.Nat.{ℕ, _^_, _<_}
-use mathlib.Core.Path.{_≡_}
-use mathlib.Core.List.{List}
+use mathlib.Core.Path.{_≡_, refl}
+use mathlib.Core.List.{List, [], _∷_, _++_}
 use mathlib.Core.Bool.{true, false}
 use native.Mathlib.Omega.{arith}
 use lib.ListN.{take}
@@ -10,43 +10,90 @@ use Rattle.lists.specs.Lists.{found}
 use Rattle.bincode.specs.Outcome.{done}
 use Rattle.bincode.specs.Sizes.{base}
 use Rattle.bincode.specs.Stands.{Bytes, All}
-use Rattle.batch.specs.Batch.{beganEra, leftOlder, planLeft, planAnswered}
+use Rattle.batch.specs.Batch.{planLeft, planAnswered}
 use Rattle.dynamic_honey_badger.specs.State.{StateOf, eraOf, candidateNodes, started, Joined, joined}
 use Rattle.process_output.specs.Process.{BatchCall, ReportOf, processed}
+use Rattle.reference.specs.Reference.{RefState}
+use Rattle.reference.specs.Step.{refRun}
 use Rattle.agreement.specs.Shared.{refOf}
-use Rattle.agreement.specs.Calls.{Call, run, sharedBatches, givenBatches, Start, startState, Full}
+use Rattle.agreement.specs.Calls.{Call, batch-call, run, sharedBatches, givenBatches, Start, new-start, join-start, startState}
+use Rattle.agreement.specs.Claim.{refStart, FollowsFrom, FollowsStart, Agree}
+use Rattle.agreement.specs.Hypotheses.{Full, beganEra, leftOlder, OfBytes, StartBytes}
 use Rattle.agreement.specs.Formed.{Formed, CallFits, StartFits}
 use Rattle.agreement.proofs.Follow as follow
-use Rattle.agreement.proofs.Follow.{Follows}
-use Rattle.agreement.proofs.Agree.{Agree, agree, agree-given, base-fits}
-use Rattle.agreement.proofs.Joiner.{OfBytes, StartBytes}
-use Rattle.agreement.proofs.WrittenPlan.{agree-by-written-plan, base-plan}
+use Rattle.agreement.proofs.Agree as agreeing
+use Rattle.agreement.proofs.Agree.{base-fits}
+use Rattle.agreement.proofs.FullLaws.{same-given}
+use Rattle.agreement.proofs.Joiner as joiner
+use Rattle.agreement.proofs.WrittenPlan as written
+use Rattle.agreement.proofs.WrittenPlan.{base-plan}
 use Rattle.agreement.proofs.FormedLaws.{reached-formed}
 
--- after every list of calls a replica is where the reference state is after the shared batches, and has answered each of them as it does
-pub replica-follows : (cs : List Call) (s : StateOf) → Follows base cs s
-replica-follows = follow.follows base base-fits
+-- The claim. From every accepted start on, and after every list of calls, a replica is where the reference state is that the start's map, era and parameters (a
+-- joiner's: its plan) opened and that was fed the shared batches alone, and it has answered each of them as that one does.
+pub start-follows : (start : Start) (s : StateOf) → startState base start ≡ done s → (cs : List Call) → FollowsStart base start s cs
+start-follows = agreeing.start-follows base base-fits
 
--- two replicas with one shared part and the same shared batches agree, whatever is their own
-pub replicas-agree : (cs ds : List Call) (s t : StateOf) → refOf s ≡ refOf t → sharedBatches base s cs ≡ sharedBatches base t ds → Agree base s cs t ds
-replicas-agree = agree base base-fits
+-- two replicas whose starts open one reference state, and with the same shared batches, agree, whatever is their own, calls refused by 1 and 4 among them
+pub starts-agree : (start start′ : Start) (s t : StateOf) → startState base start ≡ done s → startState base start′ ≡ done t → refStart base start ≡ refStart base start′
+    → (cs ds : List Call) → sharedBatches base s cs ≡ sharedBatches base t ds → Agree base s cs t ds
+starts-agree = agreeing.agree base base-fits
 
--- the user's own form: one map, era and parameters, full-length buffers, well-formed verdicts, the same batches
-pub one-start-agrees : (id key id′ key′ era : ℕ) (map params : List ℕ) (s t : StateOf) → started base id key era map params ≡ done s → started base id′ key′ era map params ≡ done t
-    → (cs ds : List Call) → All (Full base) cs → All (Full base) ds → givenBatches cs ≡ givenBatches ds → Agree base s cs t ds
-one-start-agrees = agree-given base base-fits
+module _ (id key id′ key′ era : ℕ) (map params : List ℕ) (s t : StateOf) (starts : started base id key era map params ≡ done s) (starts′ : started base id′ key′ era map params ≡ done t)
+    (cs ds : List Call) where
+  -- in particular two that `new` started with one era, map and parameters
+  pub new-starts-agree : sharedBatches base s cs ≡ sharedBatches base t ds → Agree base s cs t ds
+  unfolding refStart
+  new-starts-agree = starts-agree (new-start id key era map params) (new-start id′ key′ era map params) s t starts starts′ refl cs ds
 
--- the joiner, from the bytes that `join_plan` wrote for a batch of the giver that began a new era and left no older key generation
-module _ (start : Start) (start-bytes : StartBytes start) (a : StateOf) (starts : startState base start ≡ done a) (before : List Call) (before-bytes : All OfBytes before)
+  -- and the user's own form: full-length buffers, well-formed verdicts, the same batches
+  pub one-start-agrees : Full base cs → Full base ds → givenBatches cs ≡ givenBatches ds → Agree base s cs t ds
+  one-start-agrees f g e = new-starts-agree (same-given base cs ds s t f g e)
+
+-- The joiner, from the bytes that `join_plan` wrote for a batch of the giver that began a new era and left no older key generation.
+module _ (start : Start) (start-bytes : StartBytes start) (a : StateOf) (starts : startState base start ≡ done a) (before : List Call) (before-bytes : OfBytes before)
     (b : BatchCall) (batch-bytes : Bytes (b .bytes)) (r : ReportOf) (answered : processed base (run base a before) b .answer ≡ done r)
     (began : beganEra (r .batch) (eraOf (processed base (run base a before) b .state)) ≡ true)
-    (fresh : leftOlder (r .batch) (candidateNodes (processed base (run base a before) b .state .key-gen)) ≡ false) (set : ℕ) (set-fits : set < 256 ^ 8) where
-  pub joiner-agrees : (l : List ℕ) (n : ℕ) → planAnswered base l (r .batch) set ≡ done (found n)
-      → (places id key : ℕ) (j : Joined) → joined base places id key (take n (planLeft base l (r .batch) set)) ≡ done j
-      → (cs ds : List Call) → All (Full base) cs → All (Full base) ds → givenBatches cs ≡ givenBatches ds → Agree base (processed base (run base a before) b .state) cs (j .state) ds
-  joiner-agrees =
-      agree-by-written-plan base base-fits (omega arith) (omega arith) (omega arith) (omega arith) base-plan
-      start start-bytes a starts before before-bytes b batch-bytes r answered began fresh set set-fits
+    (fresh : leftOlder (candidateNodes (run base a before .key-gen)) (candidateNodes (processed base (run base a before) b .state .key-gen)) ≡ false)
+    (set : ℕ) (set-fits : set < 256 ^ 8) where
+  -- it starts at the reference state of the giver's whole list, that batch included, whatever its id and key are
+  pub joiner-starts : (r₀ : RefState) → refStart base start ≡ found r₀ → (l : List ℕ) (n : ℕ) → planAnswered base l (r .batch) set ≡ done (found n) → (places id key : ℕ)
+      → refStart base (join-start places id key (take n (planLeft base l (r .batch) set))) ≡ found (refRun base r₀ (sharedBatches base a (before ++ (batch-call b ∷ []))))
+  joiner-starts r₀ opens l n e places id key =
+      written.written-plan-starts base base-fits (omega arith) (omega arith) (omega arith) (omega arith) base-plan
+      start start-bytes a starts before before-bytes b batch-bytes r answered began fresh set set-fits l n e places id key r₀ opens
+
+  module _ (l : List ℕ) (n : ℕ) (e : planAnswered base l (r .batch) set ≡ done (found n))
+      (places id key : ℕ) (j : Joined) (joins : joined base places id key (take n (planLeft base l (r .batch) set)) ≡ done j) (cs ds : List Call) where
+    -- over the batches after it the giver and the joiner are where that one reference state is
+    pub both-follow : (r₀ : RefState) → refStart base start ≡ found r₀
+        → FollowsFrom base (refRun base r₀ (sharedBatches base a (before ++ (batch-call b ∷ [])))) (processed base (run base a before) b .state) cs
+        × FollowsFrom base (refRun base r₀ (sharedBatches base a (before ++ (batch-call b ∷ [])))) (j .state) ds
+    both-follow r₀ opens = (
+      joiner.giver-follows base base-fits (omega arith) (omega arith) (omega arith)
+          start start-bytes a starts before before-bytes b batch-bytes r answered began fresh set set-fits r₀ opens cs,
+      written.joiner-follows base base-fits (omega arith) (omega arith) (omega arith) (omega arith) base-plan
+          start start-bytes a starts before before-bytes b batch-bytes r answered began fresh set set-fits l n e places id key j joins r₀ opens ds,
+    )
+
+    -- so with the same shared batches they agree
+    pub joiner-agrees-shared : sharedBatches base (processed base (run base a before) b .state) cs ≡ sharedBatches base (j .state) ds
+        → Agree base (processed base (run base a before) b .state) cs (j .state) ds
+    joiner-agrees-shared =
+        written.agree-by-written-plan base base-fits (omega arith) (omega arith) (omega arith) (omega arith) base-plan
+        start start-bytes a starts before before-bytes b batch-bytes r answered began fresh set set-fits l n e places id key j joins cs ds
+
+    -- and so they do in the user's own form
+    pub joiner-agrees : Full base cs → Full base ds → givenBatches cs ≡ givenBatches ds → Agree base (processed base (run base a before) b .state) cs (j .state) ds
+    joiner-agrees f g q = joiner-agrees-shared (same-given base cs ds (processed base (run base a before) b .state) (j .state) f g q)
+
+-- from whatever state on, a replica follows the reference state that its shared part is
+pub replica-follows : (cs : List Call) (s : StateOf) → FollowsFrom base (refOf s) s cs
+replica-follows = follow.follows base base-fits
+
+-- and two in whatever states with one shared part, with the same shared batches, agree
+pub replicas-agree : (cs ds : List Call) (s t : StateOf) → refOf s ≡ refOf t → sharedBatches base s cs ≡ sharedBatches base t ds → Agree base s cs t ds
+replicas-agree = agreeing.agree-shared base base-fits
 
 -- every state that is reached from an accepted start is well formed
 pub reached-states-formed : (start : Start) → StartFits start → (s : StateOf) → startState base start ≡ done s → (cs : List Call) → All CallFits cs → Formed base (run base s cs)

@@ -8,6 +8,7 @@ use lib.ListN.{length, length-map}
 use Rattle.lists.specs.Lists.{Found, found, nothing, mapFound, filter}
 use Rattle.lists.proofs.FilterLaws.{filter-map}
 use Rattle.bincode.specs.Sizes.{Sizes}
+use Rattle.util.specs.MaxFaulty.{maxFaulty}
 use Rattle.pub_key_map.specs.declared.Node.{Node}
 use Rattle.change.specs.Change.{ChangeOf, nodeChange, encryptionSchedule, inProgress}
 use Rattle.vote_counter.specs.VoteCounter.{computeWinner}
@@ -22,6 +23,7 @@ use Rattle.decision.specs.Decision.{Decided, decidedAs, completedBy, isCandidat
 use Rattle.process_output.specs.Refusals.{some, isOutside, isStray, strayIn, batchRow6, batchRow7}
 use Rattle.reference.specs.Reference.{RefState}
 use Rattle.reference.specs.Step.{RefWork, refComplete, isReady, refReady, RefDecided, decidedRef, newEraRef, refCompleted, isCandidateRef, refElected, refWinner, refDecide, refRow5, isOutsideRef, isStrayRef, anyStray, refRow6, winsEmpty, refRow7}
+use Rattle.reference.proofs.WinnerLaws.{winner-is}
 use Rattle.agreement.specs.Shared.{partRef, candidateRef, refOf}
 use Rattle.agreement.proofs.StepLaws.{itemCount, signed-is, contribs-shared}
 
@@ -36,6 +38,11 @@ unfolding isReady ready enough
 ready-is (found g) = rw (count-is (g .key-gen))
 ready-is nothing = refl
 
+-- the first past f is whom the engine counts out
+winner-shared : (s : StateOf) → refWinner (refOf s) ≡ computeWinner (s .counter)
+unfolding computeWinner
+winner-shared s = winner-is (maxFaulty (length (nodesIn s))) (s .counter .committed)
+
 -- a map is the candidate map for both, or for neither
 candidate-is : (g : Found KeyGenStateOf) (ns : List Node) → isCandidateRef (mapFound candidateRef g) ns ≡ isCandidate (candidateNodes g) ns
 candidate-is (found g) ns = refl
@@ -47,8 +54,8 @@ refDecided d = decidedRef (refOf (d .state)) (d .change)
 
 -- steps 6 to 8
 pub decide-shared : (z : Sizes) (era : ℕ) (s : StateOf) → refDecided (decide z era s) ≡ refDecide era (refOf s)
-unfolding decide refDecide computeWinner mapWins scheduleWins newEra keyGenFor
-decide-shared z era s = rw (ready-is (s .key-gen)) (go (readyState (s .key-gen)) (s .key-gen) (computeWinner (s .counter)))
+unfolding decide refDecide mapWins scheduleWins newEra keyGenFor
+decide-shared z era s = rw (ready-is (s .key-gen), winner-shared s) (go (readyState (s .key-gen)) (s .key-gen) (computeWinner (s .counter)))
   where
     wins : (ns : List Node) (b : Bool)
         → refDecided
@@ -103,8 +110,8 @@ abbrev refEmptyWins : RefState → Bool
 refEmptyWins s = cond (refReady (s .candidate)) false (winsEmpty (refWinner s))
 
 empty-wins : (s : StateOf) → emptyWins s ≡ refEmptyWins (refOf s)
-unfolding emptyWins computeWinner
-empty-wins s = rw (ready-is (s .key-gen), empty-is (refWinner (refOf s)))
+unfolding emptyWins
+empty-wins s = rw (ready-is (s .key-gen), winner-shared s, empty-is (computeWinner (s .counter)))
 
 pub row7-shared : (z : Sizes) (s : StateOf) (verdicts : List ℕ) (cs : List ContribOf) → itemCount cs ≤ z .faults → batchRow7 z s verdicts cs ≡ refRow7 z (refOf s) cs
 unfolding batchRow7 refRow7

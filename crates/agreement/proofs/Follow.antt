@@ -24,6 +24,7 @@ use Rattle.reference.specs.Reference.{RefState}
 use Rattle.reference.specs.Step.{RefWork, RefAnswer, deniedRef, reportedRef, refDecide, refRow5, refRow6, refRow7, refSteps, refBatch, refRead, refStep, refRun, refAnswers}
 use Rattle.agreement.specs.Shared.{refOf, sharedAnswer, isPassed}
 use Rattle.agreement.specs.Calls.{Call, batch-call, vote-call, add-call, remove-call, message-call, due-call, after, run, unlessPassed, asShared, sharedBatches, answers}
+use Rattle.agreement.specs.Claim.{FollowsFrom}
 use Rattle.agreement.proofs.StepLaws.{refWork, itemCount, contribs-shared}
 use Rattle.agreement.proofs.CountLaws.{few-items}
 use Rattle.agreement.proofs.OwnCalls.{vote-for-kept, vote-to-add-kept, vote-to-remove-kept, message-kept, due-kept}
@@ -108,19 +109,14 @@ module _ (z : Sizes) (s : StateOf) (b : BatchCall) where
       go false (refuse n) e = refl
       go false (value cs c) e = rows (batchRow4 cs (b .verdicts)) (row5 (eraOf s + b .inner)) (batchRow6 s cs) (batchRow7 z s (b .verdicts) cs) cs e
 
--- what is claimed of a list of calls, from a state on: state and answers are the reference state's after the shared batches
-abbrev pub Follows : Sizes → List Call → StateOf → Type 0
-Follows z cs s = (refOf (run z s cs) ≡ refRun z (refOf s) (sharedBatches z s cs)) × (answers z s cs ≡ refAnswers z (refOf s) (sharedBatches z s cs))
-
--- it holds of every list of calls, from every state
+-- every list of calls, from every state, follows the reference state that its shared part is
 module _ (z : Sizes) (fits : z .items ≤ z .faults) where
   -- a call that leaves the shared part as it is
-  same-follows : (cs : List Call) (s t : StateOf) → refOf t ≡ refOf s → Follows z cs t
-      → (refOf (run z t cs) ≡ refRun z (refOf s) (sharedBatches z t cs)) × (answers z t cs ≡ refAnswers z (refOf s) (sharedBatches z t cs))
+  same-follows : (cs : List Call) (s t : StateOf) → refOf t ≡ refOf s → FollowsFrom z (refOf t) t cs → FollowsFrom z (refOf s) t cs
   same-follows cs s t e f =
       (f .0 ∙ ap (λ (r : RefState). refRun z r (sharedBatches z t cs)) e, f .1 ∙ ap (λ (r : RefState). refAnswers z r (sharedBatches z t cs)) e)
 
-  pub follows : (cs : List Call) (s : StateOf) → Follows z cs s
+  pub follows : (cs : List Call) (s : StateOf) → FollowsFrom z (refOf s) s cs
   unfolding run sharedBatches answers refRun refAnswers
   follows [] s = (refl, refl)
   follows (vote-call bytes ∷ cs) s = same-follows cs s (voteForBytes z s bytes .state) (vote-for-kept z s bytes) (follows cs (voteForBytes z s bytes .state))
@@ -130,7 +126,7 @@ module _ (z : Sizes) (fits : z .items ≤ z .faults) where
   follows (due-call bytes ∷ cs) s = same-follows cs s (returned z s bytes .state) (due-kept z s bytes) (follows cs (returned z s bytes .state))
   follows (batch-call b ∷ cs) s = go (isPassed (processed z s b .answer)) refl (follows cs (processed z s b .state))
     where
-      go : (p : Bool) → isPassed (processed z s b .answer) ≡ p → Follows z cs (processed z s b .state)
+      go : (p : Bool) → isPassed (processed z s b .answer) ≡ p → FollowsFrom z (refOf (processed z s b .state)) (processed z s b .state) cs
           → (refOf (run z (processed z s b .state) cs) ≡ refRun z (refOf s) (unlessPassed p (asShared b) (sharedBatches z (processed z s b .state) cs)))
           × (unlessPassed p (sharedAnswer (processed z s b .answer)) (answers z (processed z s b .state) cs)
           ≡ refAnswers z (refOf s) (unlessPassed p (asShared b) (sharedBatches z (processed z s b .state) cs)))

@@ -27,7 +27,7 @@ use Rattle.winner.specs.Winner.{winner}
 use Rattle.vote_counter.specs.VoteCounter as counter
 use Rattle.vote_counter.specs.VoteCounter.{obsolete, isKey, validVote, committedEffect, afterCommitted, addCommitted, computeWinner}
 use Rattle.key_gen_state.specs.KeyGenState.{KeyGenStateOf, readyState}
-use Rattle.key_gen_message.specs.KeyGenMessage.{SignedKeyGenMsgOf}
+use Rattle.key_gen_message.specs.KeyGenMessage.{SignedKeyGenMsgOf, SignedOk}
 use Rattle.message_store.specs.MessageStore.{isOther, without}
 use Rattle.joining.specs.Starting.{isEmpty}
 use Rattle.internal_contrib.specs.declared.Budget.{Budget}
@@ -42,12 +42,16 @@ use Rattle.decision.specs.Decision.{Decided, decidedAs, completedBy, isCandidat
 use Rattle.process_output.specs.Refusals.{batchRow1, batchRow4, batchRow6, batchRow7}
 use Rattle.process_output.specs.Process.{BatchCall, ProcessedOf, denied, finished, processedContribs, processedRead, processed}
 use Rattle.agreement.specs.Formed.{MapFormed, RunningFormed, Formed}
-use Rattle.agreement.proofs.KeptLaws.{all-any}
 use Rattle.agreement.proofs.Sound.{FoundOk, winner-ok, all-map}
 use Rattle.lists.proofs.FilterLaws.{filter-length}
 use Rattle.agreement.proofs.AllLaws.{all-filter, all-then, fold-keeps}
-use Rattle.agreement.proofs.FormedParts.{signer-member, vote-more, fresh-formed, handled-formed}
+use Rattle.agreement.proofs.FormedParts.{signer-member, vote-more}
+use Rattle.agreement.proofs.FormedKeyGen.{fresh-formed, handled-formed}
 use Rattle.agreement.proofs.FormedChanges.{with-committed, with-key-gen, with-params, with-store, new-era-formed}
+
+-- votes and key messages of a contribution, of the kind that bytes are read as
+abbrev ItemsOk : Sizes → ContribOf → Type 0
+ItemsOk z c = All (SignedVoteOk z) (c .votes) × All (SignedOk z) (c .messages)
 
 -- steps 2 to 5 of a batch: the state stays formed, and the era is the same
 module _ (z : Sizes) (era : ℕ) where
@@ -73,14 +77,15 @@ module _ (z : Sizes) (era : ℕ) where
       go false false c e = f
 
   -- what becomes of key generation
-  done-formed : (now : ℕ) (ns : List Node) (g : Found KeyGenStateOf) (m : SignedKeyGenMsgOf) (v : ℕ) → RunningFormed z g → RunningFormed z (messageDone now ns g m v .key-gen)
+  done-formed : (own now : ℕ) (ns : List Node) (g : Found KeyGenStateOf) (m : SignedKeyGenMsgOf) (v : ℕ) → SignedOk z m → RunningFormed z own g
+      → RunningFormed z own (messageDone now ns g m v .key-gen)
   unfolding messageDone
-  done-formed now ns g m v f = go (eqb (m .era) now) (validUnder ns (candidateNodes g) (m .id) (m .sig)) g f
+  done-formed own now ns g m v o f = go (eqb (m .era) now) (validUnder ns (candidateNodes g) (m .id) (m .sig)) g f
     where
-      go : (a b : Bool) (h : Found KeyGenStateOf) → RunningFormed z h
-          → RunningFormed z
+      go : (a b : Bool) (h : Found KeyGenStateOf) → RunningFormed z own h
+          → RunningFormed z own
           (cond {A = MessageDoneOf} a (cond b (byKeyGen m v h) (doneAs h (blamed-proposer InvalidKeyGenMessageSignature))) (doneAs h (blamed-proposer InvalidKeyGenMessageEra)) .key-gen)
-      go true true (found h) k = handled-formed z (h .key-gen) (h .counts) k (m .message) v (m .id)
+      go true true (found h) k = handled-formed z own (h .key-gen) (h .counts) k (m .message) (o .message-ok) v (m .id)
       go true true nothing k = tt
       go true false h k = k
       go false b h k = k
@@ -93,34 +98,34 @@ module _ (z : Sizes) (era : ℕ) where
   told-works p id (blamed-signer k) w f = f
 
   -- a committed key message
-  message-works : (p : ℕ) (w : WorkOf) (m : SignedKeyGenMsgOf) → Working w → Working (committedMessage z p w m)
+  message-works : (p : ℕ) (w : WorkOf) (m : SignedKeyGenMsgOf) → SignedOk z m → Working w → Working (committedMessage z p w m)
   unfolding committedMessage without
-  message-works p w m f =
+  message-works p w m o f =
       let s : StateOf = w .state in
       let d : MessageDoneOf = messageDone (eraOf s) (nodesIn s) (s .key-gen) m (firstVerdict (w .verdicts)) in
       let g : StateOf = withKeyGen s (d .key-gen) in
-      let k : Formed z g = with-key-gen z s (f .0) (d .key-gen) (done-formed (eraOf s) (nodesIn s) (s .key-gen) m (firstVerdict (w .verdicts)) (f .0 .key-gen-formed)) in
+      let k : Formed z g = with-key-gen z s (f .0) (d .key-gen) (done-formed (s .counter .our-id) (eraOf s) (nodesIn s) (s .key-gen) m (firstVerdict (w .verdicts)) o (f .0 .key-gen-formed)) in
       let h = f .0 .store-within in
       told-works p (m .id) (d .told) (withState (judged w) (withStore g (without m (s .store)))) (
         with-store z g k (without m (s .store)) (all-filter (λ (x : SignedKeyGenMsgOf). x .era ≡ eraOf s) (isOther m) (s .store) (f .0 .store-era))
+            (all-filter (SignedOk z) (isOther m) (s .store) (f .0 .store-ok))
             (omega (arith, filter-length (isOther m) (s .store))),
         f .1,
       )
 
   -- a contribution
-  contrib-works : (w : WorkOf) (c : ContribOf) → All (SignedVoteOk z) (c .votes) → Working w → Working (committedContrib z w c)
+  contrib-works : (w : WorkOf) (c : ContribOf) → ItemsOk z c → Working w → Working (committedContrib z w c)
   unfolding committedContrib
   contrib-works w c o f =
-      fold-keeps Working (λ (m : SignedKeyGenMsgOf). Unit {0}) (committedMessage z (c .id)) (λ x m u. message-works (c .id) x m) (foldl (committedVote z (c .id)) w (c .votes)) (c .messages)
-      (all-any (λ (m : SignedKeyGenMsgOf). Unit {0}) (λ m. tt) (c .messages))
-      (fold-keeps Working (SignedVoteOk z) (committedVote z (c .id)) (vote-works (c .id)) w (c .votes) o f)
+      fold-keeps Working (SignedOk z) (committedMessage z (c .id)) (message-works (c .id)) (foldl (committedVote z (c .id)) w (c .votes)) (c .messages) (o .1)
+      (fold-keeps Working (SignedVoteOk z) (committedVote z (c .id)) (vote-works (c .id)) w (c .votes) (o .0) f)
 
 -- all contributions of a batch
-committed-works : (z : Sizes) (s : StateOf) (verdicts : List ℕ) (cs : List ContribOf) → All (λ (c : ContribOf). All (SignedVoteOk z) (c .votes)) cs → Formed z s
+committed-works : (z : Sizes) (s : StateOf) (verdicts : List ℕ) (cs : List ContribOf) → All (ItemsOk z) cs → Formed z s
     → Working z (eraOf s) (committed z s verdicts cs)
 unfolding committed
 committed-works z s verdicts cs o f =
-    fold-keeps (Working z (eraOf s)) (λ (c : ContribOf). All (SignedVoteOk z) (c .votes)) (committedContrib z) (contrib-works z (eraOf s)) (begun s verdicts) cs o (f, refl)
+    fold-keeps (Working z (eraOf s)) (ItemsOk z) (committedContrib z) (contrib-works z (eraOf s)) (begun s verdicts) cs o (f, refl)
 
 -- a map that is not empty
 pub map-formed : (z : Sizes) (ns : List Node) → MapOk z ns → isEmpty ns ≡ false → MapFormed z ns
@@ -159,7 +164,7 @@ module _ (z : Sizes) (era : ℕ) (fits : era < 256 ^ 8) (s : StateOf) (later : e
   unfolding decide emptyWins
   decided-formed = go (readyState (s .key-gen)) (s .key-gen) (f .key-gen-formed) (computeWinner (s .counter)) winner-formed
     where
-      go : (b : Bool) (g : Found KeyGenStateOf) → RunningFormed z g → (x : Found ChangeOf) → FoundOk (ChangeOk z) x → cond b false (isEmptyMap x) ≡ false
+      go : (b : Bool) (g : Found KeyGenStateOf) → RunningFormed z (s .counter .our-id) g → (x : Found ChangeOf) → FoundOk (ChangeOk z) x → cond b false (isEmptyMap x) ≡ false
           → Formed z (cond {A = Decided} b (completedBy era s g) (electedBy z era s x) .state)
       go true (found g) k x o e = new-era-formed z (withKeyGen s nothing) (with-key-gen z s f nothing tt) era (g .key-gen .nodes) fits later (k .nodes-formed)
       go true nothing k x o e = f
@@ -170,7 +175,7 @@ module _ (z : Sizes) (era : ℕ) (fits : era < 256 ^ 8) (s : StateOf) (later : e
 -- a batch call
 module _ (z : Sizes) (s : StateOf) (f : Formed z s) (b : BatchCall) where
   -- a batch that was read
-  contribs-formed : (cs : List ContribOf) → All (λ (c : ContribOf). All (SignedVoteOk z) (c .votes)) cs → Formed z (processedContribs z s b cs .state)
+  contribs-formed : (cs : List ContribOf) → All (ItemsOk z) cs → Formed z (processedContribs z s b cs .state)
   unfolding processedContribs batchRow7 row5
   contribs-formed cs o =
       go (batchRow4 cs (b .verdicts)) (ltb 18446744073709551614 (eraOf s + b .inner)) refl (batchRow6 s cs) (emptyWins (committed z s (b .verdicts) cs .state)) refl
@@ -195,10 +200,10 @@ module _ (z : Sizes) (s : StateOf) (f : Formed z s) (b : BatchCall) where
           let e = k .1 in
           decided-formed z (epoch + 1) (omega arith) (w .state) (omega arith) (k .0) q
 
-  -- the votes of a batch that was read
-  votes-read : (left : Budget) (cs : List ContribOf) → Each spending (ContribOk z) left cs → All (λ (c : ContribOf). All (SignedVoteOk z) (c .votes)) cs
-  votes-read left [] each = tt
-  votes-read left (c ∷ cs) each = (each .0 .votes-ok, votes-read (spending left c) cs (each .1))
+  -- the votes and key messages of a batch that was read
+  items-read : (left : Budget) (cs : List ContribOf) → Each spending (ContribOk z) left cs → All (ItemsOk z) cs
+  items-read left [] each = tt
+  items-read left (c ∷ cs) each = ((each .0 .votes-ok, each .0 .messages-ok), items-read (spending left c) cs (each .1))
 
   pub batch-formed : z .nodes < 256 ^ 8 → z .rows < 256 ^ 8 → z .user < 256 ^ 8 → Bytes (b .bytes) → Formed z (processed z s b .state)
   unfolding processed
@@ -206,5 +211,5 @@ module _ (z : Sizes) (s : StateOf) (f : Formed z s) (b : BatchCall) where
     where
       go : (r1 : Bool) (x : Read (List ContribOf)) → readBatch z (b .bytes) ≡ x → Formed z (cond {A = ProcessedOf} r1 (denied s 1) (processedRead z s b x) .state)
       go true x e = f
-      go false (value cs c) e = contribs-formed cs (votes-read (opening z) cs (batch-one-encoding z nodes-fit rows-fit user-fits (b .bytes) cs c are e .1 .each))
+      go false (value cs c) e = contribs-formed cs (items-read (opening z) cs (batch-one-encoding z nodes-fit rows-fit user-fits (b .bytes) cs c are e .1 .each))
       go false (refuse n) e = f

@@ -17,7 +17,7 @@ use Rattle.votes.specs.Votes.{SignedVoteOf}
 use Rattle.vote_counter.specs.VoteCounter as counter
 use Rattle.vote_counter.specs.VoteCounter.{withPending, withCommitted}
 use Rattle.key_gen_state.specs.KeyGenState.{KeyGenStateOf}
-use Rattle.key_gen_message.specs.KeyGenMessage.{SignedKeyGenMsgOf}
+use Rattle.key_gen_message.specs.KeyGenMessage.{SignedKeyGenMsgOf, SignedOk}
 use Rattle.message_store.specs.MessageStore.{isRecent, fromEra}
 use Rattle.dynamic_honey_badger.specs.State.{StateOf, eraOf, nodesIn, withCounter, withKeyGen, withStore, withParams, newEra}
 use Rattle.commit.specs.Steps as steps
@@ -39,6 +39,7 @@ module _ (z : Sizes) (s : StateOf) (f : Formed z s) where
         committed-formed = f .committed-formed;
         key-gen-formed = f .key-gen-formed;
         store-era = f .store-era;
+        store-ok = f .store-ok;
         store-within = f .store-within;
       }
 
@@ -54,10 +55,11 @@ module _ (z : Sizes) (s : StateOf) (f : Formed z s) where
         committed-formed = v;
         key-gen-formed = f .key-gen-formed;
         store-era = f .store-era;
+        store-ok = f .store-ok;
         store-within = f .store-within;
       }
 
-  pub with-key-gen : (g : Found KeyGenStateOf) → RunningFormed z g → Formed z (withKeyGen s g)
+  pub with-key-gen : (g : Found KeyGenStateOf) → RunningFormed z (s .counter .our-id) g → Formed z (withKeyGen s g)
   with-key-gen g k =
       record {
         our-id-fits = f .our-id-fits;
@@ -69,6 +71,7 @@ module _ (z : Sizes) (s : StateOf) (f : Formed z s) where
         committed-formed = f .committed-formed;
         key-gen-formed = k;
         store-era = f .store-era;
+        store-ok = f .store-ok;
         store-within = f .store-within;
       }
 
@@ -84,11 +87,12 @@ module _ (z : Sizes) (s : StateOf) (f : Formed z s) where
         committed-formed = f .committed-formed;
         key-gen-formed = f .key-gen-formed;
         store-era = f .store-era;
+        store-ok = f .store-ok;
         store-within = f .store-within;
       }
 
-  pub with-store : (ms : List SignedKeyGenMsgOf) → All (λ (m : SignedKeyGenMsgOf). m .era ≡ eraOf s) ms → length ms ≤ z .store → Formed z (withStore s ms)
-  with-store ms a h =
+  pub with-store : (ms : List SignedKeyGenMsgOf) → All (λ (m : SignedKeyGenMsgOf). m .era ≡ eraOf s) ms → All (SignedOk z) ms → length ms ≤ z .store → Formed z (withStore s ms)
+  with-store ms a o h =
       record {
         our-id-fits = f .our-id-fits;
         our-key-fits = f .our-key-fits;
@@ -99,6 +103,7 @@ module _ (z : Sizes) (s : StateOf) (f : Formed z s) where
         committed-formed = f .committed-formed;
         key-gen-formed = f .key-gen-formed;
         store-era = a;
+        store-ok = o;
         store-within = h;
       }
 
@@ -124,5 +129,6 @@ module _ (z : Sizes) (s : StateOf) (f : Formed z s) where
         committed-formed = no-votes z ns;
         key-gen-formed = f .key-gen-formed;
         store-era = subst (All (λ (x : SignedKeyGenMsgOf). x .era ≡ era)) (sym e) tt;
+        store-ok = subst (All (SignedOk z)) (sym e) tt;
         store-within = subst (λ (ms : List SignedKeyGenMsgOf). length ms ≤ z .store) (sym e) (omega arith);
       }

@@ -1,7 +1,7 @@
 -- An accepted start is formed, and every call leaves a formed state formed: so every state that is reached is formed.
 -- Assumes nothing.
 use Prim.Native.Nat.{ℕ, _^_, _<_}
-use mathlib.Core.Path.{_≡_, refl, sym, ap, _∙_, subst}
+use mathlib.Core.Path.{_≡_, refl, subst}
 use mathlib.Core.List.{List, [], _∷_, map}
 use mathlib.Core.Bool.{Bool, true, false, cond}
 use native.Mathlib.Omega.{arith}
@@ -22,15 +22,16 @@ use Rattle.params.proofs.ParamsCodes.{params-codes}
 use Rattle.change.specs.Change.{nodeChange, encryptionSchedule, ChangeStateOf, none, inProgress, complete, StateOk}
 use Rattle.vote_counter.specs.VoteCounter as counter
 use Rattle.message_store.specs.MessageStore.{without}
-use Rattle.join_plan.specs.JoinPlan.{PlanOf, readPlan, PlanOk}
+use Rattle.join_plan.specs.JoinPlan.{PlanOf, PlanOk}
 use Rattle.join_plan.proofs.PlanCodes.{plan-one-encoding}
-use Rattle.joining.specs.Starting.{reading, isEmpty, keyRow2, joinRow1, emptyProgress, joinRow8, joinRow9, joinRow10, joinPlan, joinChecked, startMap, startChecked}
+use Rattle.joining.specs.Starting.{reading, isEmpty, keyRow2, emptyProgress, joinRow8, joinChecked, startMap, startChecked}
 use Rattle.dynamic_honey_badger.specs.State.{StateOf, freshKeyGen, keyGenFor, opened, startedFrom, started, joinedBy, joinedWith, joinedFrom, joined}
 use Rattle.commit.specs.Steps as steps
 use Rattle.agreement.specs.Calls.{Call, batch-call, vote-call, add-call, remove-call, message-call, due-call, after, run, Start, new-start, join-start, joinedState, startState}
 use Rattle.agreement.specs.Formed.{MapFormed, Formed, CallFits, StartFits}
-use Rattle.agreement.proofs.Agree.{done-refused}
-use Rattle.agreement.proofs.FormedParts.{no-votes, fresh-formed}
+use Rattle.agreement.proofs.Agree.{done-refused, accepted-plan}
+use Rattle.agreement.proofs.FormedParts.{no-votes}
+use Rattle.agreement.proofs.FormedKeyGen.{fresh-formed}
 use Rattle.agreement.proofs.FormedChanges.{with-key-gen}
 use Rattle.agreement.proofs.FormedOwn.{vote-for-formed, vote-to-add-formed, vote-to-remove-formed, message-formed, due-formed}
 use Rattle.agreement.proofs.FormedBatch.{map-formed, batch-formed}
@@ -42,8 +43,8 @@ module _ (z : Sizes) (nodes-fit : z .nodes < 256 ^ 8) (rows-fit : z .rows < 256 
   call-formed s (vote-call bytes) f fits = vote-for-formed z s f nodes-fit bytes fits
   call-formed s (add-call id key) f fits = vote-to-add-formed z s f id key (fits .0) (fits .1)
   call-formed s (remove-call id) f fits = vote-to-remove-formed z s f id
-  call-formed s (message-call sender bytes) f fits = message-formed z s f nodes-fit rows-fit sender bytes (fits .1)
-  call-formed s (due-call bytes) f fits = due-formed z s f bytes
+  call-formed s (message-call sender bytes) f fits = message-formed z s f nodes-fit rows-fit sender bytes (fits .0) (fits .1)
+  call-formed s (due-call bytes) f fits = due-formed z s f nodes-fit rows-fit bytes fits
 
   -- and so does every list of calls
   pub run-formed : (s : StateOf) (cs : List Call) → Formed z s → All CallFits cs → Formed z (run z s cs)
@@ -64,6 +65,7 @@ opened-formed z id key era ns p i k e m o =
       committed-formed = no-votes z ns;
       key-gen-formed = tt;
       store-era = tt;
+      store-ok = tt;
       store-within = omega arith;
     }
 
@@ -91,25 +93,6 @@ module _ (z : Sizes) (nodes-fit : z .nodes < 256 ^ 8) where
           (one-encoding (readMap fixed z) (mapBytes fixed) (MapOk z) (λ l. map-codes fixed l (fixed-codes l) z nodes-fit) keys ns c bk f .1)
           (one-encoding (readParams fixed) (paramsBytes fixed) ParamsOk (λ l. params-codes fixed l (fixed-codes l)) params p d bp g .1)
           (keyRow2 key) (isEmpty ns) refl q
-
--- an accepted plan was read, and has no empty map, nor one in progress
-accepted-plan : (z : Sizes) (places id key : ℕ) (plan : List ℕ) (p : PlanOf) → joinChecked z places id key plan ≡ done p
-    → (c : ℕ) × (whole (readPlan fixed z plan) plan ≡ value p c) × (joinRow8 p ≡ false)
-unfolding joinChecked joinPlan
-accepted-plan z places id key plan p = go (joinRow1 z places) (whole (readPlan fixed z plan) plan)
-  where
-    rows : (q : PlanOf) (c : ℕ) (r2 r8 : Bool) → joinRow8 q ≡ r8 → (r9 r10 : Bool)
-        → cond r2 (refused 2) (cond r8 (refused 8) (cond r9 (refused 9) (cond r10 (refused 10) (done q)))) ≡ done p → (d : ℕ) × (value q c ≡ value p d) × (joinRow8 p ≡ false)
-    rows q c true r8 h r9 r10 e = absurd (done-refused e)
-    rows q c false true h r9 r10 e = absurd (done-refused e)
-    rows q c false false h true r10 e = absurd (done-refused e)
-    rows q c false false h false true e = absurd (done-refused e)
-    rows q c false false h false false e = let t : q ≡ p = cc in (c, ap (λ (x : PlanOf). value x c) t, ap joinRow8 (sym t) ∙ h)
-
-    go : (r1 : Bool) (x : Read PlanOf) → cond r1 (refused 1) (reading x (joinPlan id key)) ≡ done p → (c : ℕ) × (x ≡ value p c) × (joinRow8 p ≡ false)
-    go true x e = absurd (done-refused e)
-    go false (refuse n) e = absurd (done-refused e)
-    go false (value q c) e = rows q c (keyRow2 key) (joinRow8 q) refl (joinRow9 id q) (joinRow10 q) e
 
 module _ (z : Sizes) where
   -- a joiner's state, where its plan has no empty map

@@ -1,7 +1,7 @@
 -- Own votes, received messages and due items handed back leave a formed state formed.
 -- Assumes nothing.
 use Prim.Native.Nat.{ℕ, _+_, _^_, _≤_, _<_}
-use mathlib.Core.Path.{_≡_, refl}
+use mathlib.Core.Path.{_≡_, refl, subst}
 use mathlib.Core.List.{List, [], _∷_, _++_}
 use mathlib.Core.Bool.{Bool, true, false, cond}
 use native.Mathlib.Omega.{arith}
@@ -11,10 +11,11 @@ use borrow.Author.Tests.{ltb-false, leb-false, eqb-true, eqb-false}
 use Rattle.lists.specs.Lists.{Found, found, nothing, mapFound, lookup}
 use Rattle.bincode.specs.Read.{Read, value, refuse, whole}
 use Rattle.bincode.specs.Outcome.{Outcome, done, refused}
-use Rattle.bincode.specs.Numbers.{fixed}
+use Rattle.bincode.specs.Numbers.{readNum, fixed}
 use Rattle.bincode.specs.Sizes.{Sizes}
 use Rattle.bincode.specs.Stands.{Bytes, All}
 use Rattle.bincode.proofs.CodeLaws.{fixed-codes, one-encoding}
+use Rattle.bincode.proofs.ReadLaws.{clash, same-value, cond-value, bind-value}
 use Rattle.network_info.specs.NetworkInfo.{keyOf}
 use Rattle.fault_log.specs.declared.FaultKind.the-variants.{InvalidVoteSignature, UnexpectedDhbMessageEra, InvalidKeyGenMessageSignature, TooManyKeyGenMessages}
 use Rattle.change.specs.Change.{ChangeOf, nodeChange, readChange, changeBytes, ChangeOk}
@@ -25,8 +26,8 @@ use Rattle.vote_counter.specs.VoteCounter as counter
 use Rattle.vote_counter.specs.VoteCounter.{obsolete, isKey, validVote, pendingEffect, afterPending, addPending, nextNum, ownVote, signedWith, signVoteFor}
 use Rattle.key_gen.specs.KeyGen.{nodeCount}
 use Rattle.key_gen_state.specs.KeyGenState.{KeyGenStateOf, CountedOf, countMessages}
-use Rattle.key_gen_message.specs.KeyGenMessage.{SignedKeyGenMsgOf}
-use Rattle.message.specs.Message.{MessageContent, keyGen, signedVote, readMessage, contentBytes, ContentOk}
+use Rattle.key_gen_message.specs.KeyGenMessage.{SignedKeyGenMsgOf, SignedOk}
+use Rattle.message.specs.Message.{MessageContent, keyGen, signedVote, readKeyGen, readMessage, contentBytes, ContentOk}
 use Rattle.message.proofs.ContentCodes.{content-codes}
 use Rattle.message_store.specs.MessageStore.{row12, pushed}
 use Rattle.node_change.specs.NodeChange.{row13, withNode, withoutNode}
@@ -37,7 +38,8 @@ use Rattle.commit.specs.Steps as steps
 use Rattle.agreement.specs.Formed.{KeyGenFormed, RunningFormed, Formed}
 use Rattle.agreement.proofs.Agree.{done-refused}
 use Rattle.agreement.proofs.AllLaws.{all-lookup, all-more}
-use Rattle.agreement.proofs.FormedParts.{with-node-ok, without-node-ok, signer-member, vote-more, counted-formed}
+use Rattle.agreement.proofs.FormedParts.{with-node-ok, without-node-ok, signer-member, vote-more}
+use Rattle.agreement.proofs.FormedKeyGen.{counted-formed}
 use Rattle.agreement.proofs.FormedChanges.{with-pending, with-key-gen, with-store}
 
 -- own votes
@@ -122,41 +124,42 @@ module _ (z : Sizes) (s : StateOf) (f : Formed z s) where
       go false b c e = f
 
   -- a message put into the store, where it is of the era; t has the same store
-  pushed-formed : (t : StateOf) → ((ms : List SignedKeyGenMsgOf) → All (λ (x : SignedKeyGenMsgOf). x .era ≡ eraOf s) ms → length ms ≤ z .store → Formed z (withStore t ms))
-      → (m : SignedKeyGenMsgOf) → m .era ≡ eraOf s → Formed z (storedIn s t (pushed z (s .store) m) .state)
+  pushed-formed : (t : StateOf) → ((ms : List SignedKeyGenMsgOf) → All (λ (x : SignedKeyGenMsgOf). x .era ≡ eraOf s) ms → All (SignedOk z) ms → length ms ≤ z .store → Formed z (withStore t ms))
+      → (m : SignedKeyGenMsgOf) → m .era ≡ eraOf s → SignedOk z m → Formed z (storedIn s t (pushed z (s .store) m) .state)
   unfolding pushed row12
-  pushed-formed t put m e = go (leb (z .store) (length (s .store))) refl
+  pushed-formed t put m e o = go (leb (z .store) (length (s .store))) refl
     where
       go : (b : Bool) → leb (z .store) (length (s .store)) ≡ b → Formed z (storedIn s t (cond b (refused 12) (done (s .store ++ (m ∷ [])))) .state)
       go true q = f
       go false q =
           put (s .store ++ (m ∷ [])) (all-more (λ (x : SignedKeyGenMsgOf). x .era ≡ eraOf s) (s .store) m (f .store-era) e)
+          (all-more (SignedOk z) (s .store) m (f .store-ok) o)
           (rw (length-append (s .store) (m ∷ [])) (omega (arith, leb-false (z .store) (length (s .store)) q)))
 
   -- a received key message of the era
-  key-message-formed : (m : SignedKeyGenMsgOf) → m .era ≡ eraOf s → Formed z (receivedKeyGen z s m .state)
+  key-message-formed : (m : SignedKeyGenMsgOf) → m .era ≡ eraOf s → SignedOk z m → Formed z (receivedKeyGen z s m .state)
   unfolding receivedKeyGen
-  key-message-formed m e = go (validSignature s (m .id) (m .sig)) (s .key-gen) (f .key-gen-formed)
+  key-message-formed m e o = go (validSignature s (m .id) (m .sig)) (s .key-gen) (f .key-gen-formed)
     where
-      stored : (b : Bool) (g : KeyGenStateOf) → KeyGenFormed z g
+      stored : (b : Bool) (g : KeyGenStateOf) → KeyGenFormed z (s .counter .our-id) g
           → Formed z (cond {A = HandledOf} b (handledAs (withKeyGen s (found g)) (fault TooManyKeyGenMessages)) (storedIn s (withKeyGen s (found g)) (pushed z (s .store) m)) .state)
       stored true g k = with-key-gen z s f (found g) k
-      stored false g k = pushed-formed (withKeyGen s (found g)) (with-store z (withKeyGen s (found g)) (with-key-gen z s f (found g) k)) m e
+      stored false g k = pushed-formed (withKeyGen s (found g)) (with-store z (withKeyGen s (found g)) (with-key-gen z s f (found g) k)) m e o
 
-      go : (b : Bool) (g : Found KeyGenStateOf) → RunningFormed z g → Formed z (cond {A = HandledOf} b (keyGenIn z s m g) (handledAs s (fault InvalidKeyGenMessageSignature)) .state)
+      go : (b : Bool) (g : Found KeyGenStateOf) → RunningFormed z (s .counter .our-id) g → Formed z (cond {A = HandledOf} b (keyGenIn z s m g) (handledAs s (fault InvalidKeyGenMessageSignature)) .state)
       go true (found g) k =
           let c : CountedOf = countMessages z (nodesIn s) g (m .id) in
-          stored (ltb (nodeCount (g .key-gen) + 1) (c .count)) (c .state) (counted-formed z (nodesIn s) g (m .id) k)
+          stored (ltb (nodeCount (g .key-gen) + 1) (c .count)) (c .state) (counted-formed z (nodesIn s) (s .counter .our-id) g (m .id) k)
       go true nothing k = f
       go false g k = f
 
   -- a received message
-  pub message-formed : z .nodes < 256 ^ 8 → z .rows < 256 ^ 8 → (sender : ℕ) (bytes : List ℕ) → Bytes bytes → Formed z (received z s sender bytes .state)
+  pub message-formed : z .nodes < 256 ^ 8 → z .rows < 256 ^ 8 → (sender : ℕ) (bytes : List ℕ) → sender < 256 ^ 4 → Bytes bytes → Formed z (received z s sender bytes .state)
   unfolding received receivedContent
-  message-formed nodes-fit rows-fit sender bytes are = go (whole (readMessage z bytes) bytes) refl
+  message-formed nodes-fit rows-fit sender bytes fits are = go (whole (readMessage z bytes) bytes) refl
     where
       now : (x : MessageContent) → ContentOk z x → messageEra x ≡ eraOf s → Formed z (receivedNow z s sender x .state)
-      now (keyGen era m sig) o e = key-message-formed (signedBy era sender m sig) e
+      now (keyGen era m sig) o e = key-message-formed (signedBy era sender m sig) e (record { era-fits = o .0; id-fits = fits; message-ok = o .1; sig-fits = o .2 })
       now (signedVote v) o e = pending-added v o
 
       by-era : (x : MessageContent) → ContentOk z x → (a : Bool) → ltb (eraOf s) (messageEra x) ≡ a → (b : Bool) → ltb (messageEra x) (eraOf s) ≡ b
@@ -171,18 +174,35 @@ module _ (z : Sizes) (s : StateOf) (f : Formed z s) where
           (ltb (messageEra x) (eraOf s)) refl
       go (refuse n) e = f
 
-  -- a due item handed back
-  pub due-formed : (bytes : List ℕ) → Formed z (returned z s bytes .state)
-  unfolding returned returnedKeyGen
-  due-formed bytes = go (whole (readDueItem z bytes) bytes)
+  -- what a due item is read as, a message is read as
+  due-message : (bytes : List ℕ) (x : MessageContent) (c : ℕ) → readDueItem z bytes 0 ≡ value x c → readMessage z bytes 0 ≡ value x c
+  unfolding readDueItem readMessage
+  due-message bytes x c e = let u = bind-value (readNum 4 bytes 0) _ e in rw (u .2) (go (u .1) (eqb (u .0) 1) _ (u .3))
     where
-      by-era : (m : SignedKeyGenMsgOf) (a : Bool) → eqb (m .era) (eraOf s) ≡ a → (b : Bool)
-          → Formed z (cond {A = HandledOf} a (cond b (storedIn s s (pushed z (s .store) m)) (handledAs s quiet)) (handledAs s quiet) .state)
-      by-era m true e true = pushed-formed s (with-store z s f) m (eqb-true (m .era) (eraOf s) e)
-      by-era m true e false = f
-      by-era m false e b = f
+      go : (d : ℕ) (b : Bool) (o : Read MessageContent) → cond b (readKeyGen z bytes d) (refuse 2) ≡ value x c → cond b (readKeyGen z bytes d) o ≡ value x c
+      go d true o q = q
+      go d false o q = absurd (clash (refuse 2) q refl)
 
-      go : (x : Read MessageContent) → Formed z (returnedRead z s x .state)
-      go (value (keyGen era m sig) c) = by-era (signedBy era (s .counter .our-id) m sig) (eqb era (eraOf s)) refl (isValidator s)
-      go (value (signedVote v) c) = f
-      go (refuse n) = f
+  -- a due item handed back
+  pub due-formed : z .nodes < 256 ^ 8 → z .rows < 256 ^ 8 → (bytes : List ℕ) → Bytes bytes → Formed z (returned z s bytes .state)
+  unfolding returned returnedKeyGen whole
+  due-formed nodes-fit rows-fit bytes are = go (whole (readDueItem z bytes) bytes) refl
+    where
+      by-era : (m : SignedKeyGenMsgOf) → SignedOk z m → (a : Bool) → eqb (m .era) (eraOf s) ≡ a → (b : Bool)
+          → Formed z (cond {A = HandledOf} a (cond b (storedIn s s (pushed z (s .store) m)) (handledAs s quiet)) (handledAs s quiet) .state)
+      by-era m o true e true = pushed-formed s (with-store z s f) m (eqb-true (m .era) (eraOf s) e) o
+      by-era m o true e false = f
+      by-era m o false e b = f
+
+      ok : (x : MessageContent) (c : ℕ) → whole (readDueItem z bytes) bytes ≡ value x c → ContentOk z x
+      ok x c e =
+          let u = bind-value (readDueItem z bytes 0) _ e in
+          let v = cond-value (value (u .0) (u .1)) (ltb (u .1) (length bytes)) 2 (u .3) in
+          subst (ContentOk z) (same-value (value (u .0) (u .1)) refl (v .1)) (content-codes bytes z nodes-fit rows-fit .stands are 0 (u .0) (u .1) (due-message bytes (u .0) (u .1) (u .2)) .2)
+
+      go : (x : Read MessageContent) → whole (readDueItem z bytes) bytes ≡ x → Formed z (returnedRead z s x .state)
+      go (value (keyGen era m sig) c) e =
+          let o = ok (keyGen era m sig) c e in
+          by-era (signedBy era (s .counter .our-id) m sig) (record { era-fits = o .0; id-fits = f .our-id-fits; message-ok = o .1; sig-fits = o .2 }) (eqb era (eraOf s)) refl (isValidator s)
+      go (value (signedVote v) c) e = f
+      go (refuse n) e = f

@@ -4,7 +4,7 @@ use Prim.Native.Nat.{ℕ, zero, suc, _+_, _-_, _≤_}
 use mathlib.Core.Path.{_≡_, refl, ap}
 use mathlib.Core.Logic.{_⊎_, inl, inr}
 use mathlib.Core.List.{List, [], _∷_}
-use mathlib.Core.Bool.{Bool, true, false, cond, _||_}
+use mathlib.Core.Bool.{Bool, true, false, cond}
 use native.Mathlib.Omega.{arith}
 use lib.Dec.{ltb, leb, eqb}
 use lib.ListN.{length}
@@ -88,7 +88,7 @@ module _ (s : List ℕ) where
   plain-node low at =
       plain-bind (readNum 4 s at) _ (plain-num 4 s at) λ id c.
       plain-bind (readNum 8 s c) _ (plain-num 8 s c) λ key d.
-      plain-choice (ltb id low || eqb key 0) _ _ (inl refl) tt
+      plain-choice (ltb id low) _ _ (inl refl) (plain-choice (eqb key 0) _ _ (inl refl) tt)
 
   pub plain-schedule : (at : ℕ) → Plain (readSchedule fixed s at)
   unfolding readSchedule

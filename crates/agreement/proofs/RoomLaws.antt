@@ -1,5 +1,5 @@
 -- In a formed state no list is longer than the map that it goes by: there are no more votes than nodes, so a member's vote always has a place; no more parts
--- than nodes of the candidate map, and no more acknowledgers of a part.
+-- than nodes of the candidate map, and no more acknowledgers or good values of a part.
 -- Assumes nothing.
 use Prim.Native.Nat.{ℕ, suc, _+_, _-_, _≤_, _<_}
 use mathlib.Core.Path.{_≡_, refl}
@@ -110,12 +110,15 @@ module _ (z : Sizes) (s : StateOf) (f : Formed z s) where
   pub pending-place : (v : SignedVoteOf) → isMember (nodesIn s) (v .voter) ≡ true → insertWithin voterOf (z .nodes) v (s .counter .pending) ≡ insert voterOf v (s .counter .pending)
   pending-place = vote-place z (nodesIn s) (f .nodes-formed) (s .counter .pending) (f .pending-formed)
 
--- key generation has no more parts than the candidate map has nodes, and no part has more acknowledgers
-pub few-parts : (z : Sizes) (g : KeyGenStateOf) → KeyGenFormed z g → length (g .key-gen .parts) ≤ length (g .key-gen .nodes)
-few-parts z g f =
+-- key generation has no more parts than the candidate map has nodes, and no part has more acknowledgers or good values
+pub few-parts : (z : Sizes) (id : ℕ) (g : KeyGenStateOf) → KeyGenFormed z id g → length (g .key-gen .parts) ≤ length (g .key-gen .nodes)
+few-parts z id g f =
     let n = length (g .key-gen .nodes) in
     let b = all-then (PartFormed n) (λ (q : ProposalOf). q .proposer < n) (λ q p. p .proposer-below) (g .key-gen .parts) (f .parts-formed) in
     omega (arith, few-below byProposer n 0 (g .key-gen .parts) (f .parts-ascend) b)
 
 pub few-acks : (n : ℕ) (q : ProposalOf) → PartFormed n q → length (q .acks) ≤ n
 few-acks n q f = omega (arith, few-below (λ (j : ℕ). j) n 0 (q .acks) (f .acks-ascend) (f .acks-below))
+
+pub few-good : (n : ℕ) (q : ProposalOf) → PartFormed n q → length (q .good) ≤ n
+few-good n q f = omega (arith, few-below (λ (j : ℕ). j) n 0 (q .good) (f .good-ascend) (f .good-below))

@@ -2,7 +2,7 @@
 -- is read back as itself.
 -- Assumes nothing.
 use Prim.Native.Nat.{ℕ, _+_, _^_, _<_}
-use mathlib.Core.Path.{_≡_, refl, sym, subst}
+use mathlib.Core.Path.{_≡_, refl, subst}
 use mathlib.Core.List.{List, [], _∷_, _++_, map}
 use mathlib.Core.Bool.{Bool, true, false, cond}
 use native.Mathlib.Omega.{arith}
@@ -10,7 +10,7 @@ use lib.Dec.{ltb}
 use lib.ListN.{length}
 use borrow.Author.Tests.{ltb-false}
 use Rattle.lists.specs.Lists.{Found, found, nothing, mapFound}
-use Rattle.bincode.specs.Read.{Read, value, refuse}
+use Rattle.bincode.specs.Read.{Read, value, refuse, whole}
 use Rattle.bincode.specs.Numbers.{fixed}
 use Rattle.bincode.specs.Outcome.{done}
 use Rattle.bincode.specs.Sizes.{Sizes}
@@ -19,22 +19,29 @@ use Rattle.bincode.proofs.CodeLaws.{fixed-codes, one-encoding}
 use Rattle.pub_key_map.specs.declared.Node.{Node}
 use Rattle.pub_key_map.specs.PubKeyMap.{readMap, mapBytes, MapOk}
 use Rattle.pub_key_map.proofs.MapCodes.{map-codes}
+use Rattle.params.specs.declared.Params.{Params}
 use Rattle.params.specs.Params.{readParams, paramsBytes, ParamsOk}
 use Rattle.params.proofs.ParamsCodes.{params-codes}
 use Rattle.change.specs.Change.{ChangeOf, nodeChange, encryptionSchedule, ChangeStateOf, none, inProgress, complete, sameChange, ChangeOk, StateOk}
 use Rattle.votes.specs.Votes.{SignedVoteOf, SignedVoteOk}
 use Rattle.winner.specs.Winner.{support, winnerAfter, winner}
 use Rattle.util.specs.MaxFaulty.{maxFaulty}
-use Rattle.join_plan.specs.JoinPlan.{PlanOf, PlanOk}
+use Rattle.join_plan.specs.JoinPlan.{PlanOf, readPlan, PlanOk}
+use Rattle.join_plan.proofs.PlanCodes.{plan-one-encoding}
 use Rattle.batch.specs.Batch.{planOfBatch}
 use Rattle.internal_contrib.specs.declared.Budget.{Budget}
 use Rattle.internal_contrib.specs.InternalContrib.{ContribOf, readBatch, spending, opening, ContribOk}
 use Rattle.internal_contrib.proofs.ContribCodes.{batch-one-encoding}
 use Rattle.reference.specs.Reference.{CandidateRef, RefState}
-use Rattle.reference.specs.Step.{RefDecided, decidedRef, newEraRef, RefReport, RefAnswer, SharedBatch, choiceOf, refContribs, refReady, refCompleted, isCandidateRef, refElected, refWinner, refDecide, refRow5, refRow6, refRow7, deniedRef, reportedRef, refSteps, refBatch, refRead, refStep, refRun}
+use Rattle.reference.specs.Winner.{choiceOf}
+use Rattle.reference.specs.Step.{RefDecided, decidedRef, newEraRef, RefReport, RefAnswer, SharedBatch, refContribs, refReady, refCompleted, isCandidateRef, refElected, refWinner, refDecide, refRow5, refRow6, refRow7, deniedRef, reportedRef, refSteps, refBatch, refRead, refStep, refRun}
+use Rattle.reference.proofs.WinnerLaws.{winner-is}
 use Rattle.agreement.specs.Shared.{planCandidate, planRef}
+use Rattle.agreement.specs.Calls.{Start, new-start, join-start}
+use Rattle.agreement.specs.Claim.{openedBy, plannedBy, refStart}
+use Rattle.agreement.specs.Hypotheses.{StartBytes}
 use Rattle.agreement.proofs.KeptLaws.{mapOf, Kept, contribs-keep}
-use Rattle.agreement.proofs.Agree.{done-refused, Opens}
+use Rattle.agreement.proofs.Agree.{done-refused, found-same, not-found}
 
 -- what is found is such as P holds of
 module _ {A : Type 0} (P : A → Type 0) where
@@ -87,7 +94,9 @@ module _ (z : Sizes) where
   decide-ok era s o = go (refReady (s .candidate)) (s .candidate) (o .candidate-ok) (refWinner s) chosen
     where
       chosen : FoundOk (ChangeOk z) (refWinner s)
-      chosen = winner-ok (ChangeOk z) sameChange (maxFaulty (length (s .nodes))) [] (map choiceOf (s .votes)) (all-map choiceOf (ChangeOk z) (s .votes) (o .votes-ok))
+      chosen =
+          rw (winner-is (maxFaulty (length (s .nodes))) (s .votes))
+          (winner-ok (ChangeOk z) sameChange (maxFaulty (length (s .nodes))) [] (map choiceOf (s .votes)) (all-map choiceOf (ChangeOk z) (s .votes) (o .votes-ok)))
 
       wins : (ns : List Node) → MapOk z ns → (b : Bool)
           → DecidedOk
@@ -179,14 +188,8 @@ module _ (z : Sizes) where
     run-ok s [] bytes o = o
     run-ok s (b ∷ bs) bytes o = run-ok (refStep z s b .state) bs (bytes .1) (step-ok s b (bytes .0) o .0)
 
-  -- the starts
-  pub open-ok : z .nodes < 256 ^ 8 → (era : ℕ) (map params : List ℕ) → Bytes map → Bytes params → (r : RefState) → Opens z era map params r → RefOk r
-  open-ok nodes-fit era map params bm bp r o =
-      let m = one-encoding (readMap fixed z) (mapBytes fixed) (MapOk z) (λ s. map-codes fixed s (fixed-codes s) z nodes-fit) map (o .nodes) (o .map-end) bm (o .map-read) in
-      let p = one-encoding (readParams fixed) (paramsBytes fixed) ParamsOk (λ s. params-codes fixed s (fixed-codes s)) params (o .settings) (o .params-end) bp (o .params-read) in
-      subst RefOk (sym (o .opens)) (record { nodes-ok = m .1; params-ok = p .1; votes-ok = tt; candidate-ok = tt })
-
-  pub plan-ok : (p : PlanOf) → PlanOk z p → RefOk (planRef p)
+  -- the starts: `new`, and joining
+  plan-ok : (p : PlanOf) → PlanOk z p → RefOk (planRef p)
   plan-ok p o = record { nodes-ok = o .keys-ok; params-ok = o .params-ok; votes-ok = tt; candidate-ok = go (p .change) (o .change-ok) }
     where
       go : (c : ChangeStateOf) → StateOk z c → FoundOk (MapOk z) (mapFound mapOf (planCandidate c))
@@ -194,3 +197,20 @@ module _ (z : Sizes) where
       go (inProgress (encryptionSchedule x)) q = tt
       go (complete c) q = tt
       go none q = tt
+
+  pub start-ok : z .nodes < 256 ^ 8 → (start : Start) → StartBytes start → (r : RefState) → refStart z start ≡ found r → RefOk r
+  unfolding refStart
+  start-ok nodes-fit (new-start id key era map params) bytes r = go (whole (readMap fixed z map) map) refl (whole (readParams fixed params) params) refl
+    where
+      go : (x : Read (List Node)) → whole (readMap fixed z map) map ≡ x → (y : Read Params) → whole (readParams fixed params) params ≡ y → openedBy era x y ≡ found r → RefOk r
+      go (refuse n) f y g e = absurd (not-found e)
+      go (value ns c) f (refuse n) g e = absurd (not-found e)
+      go (value ns c) f (value p d) g e =
+          let m = one-encoding (readMap fixed z) (mapBytes fixed) (MapOk z) (λ s. map-codes fixed s (fixed-codes s) z nodes-fit) map ns c (bytes .0) f in
+          let q = one-encoding (readParams fixed) (paramsBytes fixed) ParamsOk (λ s. params-codes fixed s (fixed-codes s)) params p d (bytes .1) g in
+          subst RefOk (found-same e) (record { nodes-ok = m .1; params-ok = q .1; votes-ok = tt; candidate-ok = tt })
+  start-ok nodes-fit (join-start places id key plan) bytes r = go (whole (readPlan fixed z plan) plan) refl
+    where
+      go : (x : Read PlanOf) → whole (readPlan fixed z plan) plan ≡ x → plannedBy x ≡ found r → RefOk r
+      go (refuse n) f e = absurd (not-found e)
+      go (value p c) f e = subst RefOk (found-same e) (plan-ok p (plan-one-encoding z nodes-fit plan p c bytes f .1))

@@ -1,8 +1,8 @@
 -- The plan that a joiner agrees by is the bytes that `join_plan` wrote: of the buffer that the call leaves, as many as it answers.
 -- Assumes nothing.
 use Prim.Native.Nat.{ℕ, _+_, _*_, _^_, _≤_, _<_}
-use mathlib.Core.Path.{_≡_, refl, sym, ap, _∙_, subst}
-use mathlib.Core.List.{List}
+use mathlib.Core.Path.{_≡_, refl, ap, _∙_, subst}
+use mathlib.Core.List.{List, [], _∷_, _++_}
 use mathlib.Core.Bool.{Bool, true, false, cond}
 use native.Mathlib.Omega.{arith}
 use lib.ListN.{length, take, drop}
@@ -12,7 +12,7 @@ use Rattle.lists.specs.Lists.{found, nothing}
 use Rattle.bincode.specs.Outcome.{done, refused}
 use Rattle.bincode.specs.Sizes.{Sizes, base}
 use Rattle.bincode.specs.Numbers.{fixed}
-use Rattle.bincode.specs.Stands.{Bytes, All}
+use Rattle.bincode.specs.Stands.{Bytes}
 use Rattle.pub_key_map.proofs.MapLaws.{length-map}
 use Rattle.honey_badger.specs.declared.EncryptionSchedule.{EncryptionSchedule}
 use Rattle.honey_badger.specs.declared.EncryptionSchedule.the-variants.{Always, Never, EveryNthEpoch, TickTock}
@@ -23,12 +23,17 @@ use Rattle.change.specs.Change.{ChangeOf, nodeChange, encryptionSchedule, Chang
 use Rattle.change.proofs.ChangeLaws.{length-change, length-state}
 use Rattle.join_plan.specs.JoinPlan.{PlanOf, planBytes, PlanOk, row1, planWritten, planSaid}
 use Rattle.join_plan.proofs.PlanLaws.{length-plan}
-use Rattle.batch.specs.Batch.{BatchOf, changed, beganEra, leftOlder, planOfBatch, noNext, planLeft, foundBytes, planAnswered}
+use Rattle.batch.specs.Batch.{BatchOf, changed, planOfBatch, noNext, planLeft, foundBytes, planAnswered}
 use Rattle.dynamic_honey_badger.specs.State.{StateOf, eraOf, candidateNodes, Joined, joined}
 use Rattle.process_output.specs.Process.{BatchCall, ReportOf, processed}
-use Rattle.agreement.specs.Calls.{Call, run, givenBatches, Start, startState, Full}
-use Rattle.agreement.proofs.Agree.{done-refused, Agree}
-use Rattle.agreement.proofs.Joiner.{OfBytes, StartBytes, plan-of-report, agree-by-plan}
+use Rattle.reference.specs.Reference.{RefState}
+use Rattle.reference.specs.Step.{refRun}
+use Rattle.agreement.specs.Shared.{refOf}
+use Rattle.agreement.specs.Calls.{Call, batch-call, run, sharedBatches, Start, join-start, joinedState, startState}
+use Rattle.agreement.specs.Claim.{refStart, FollowsFrom, Agree}
+use Rattle.agreement.specs.Hypotheses.{beganEra, leftOlder, OfBytes, StartBytes}
+use Rattle.agreement.proofs.Agree.{done-refused, start-opens, opened-follows, follow-one}
+use Rattle.agreement.proofs.Joiner.{plan-of-report, plan-starts, giver-follows}
 
 -- the longest plan: era; two tags and a map; a map; key set; parameters with the longest schedule
 abbrev pub planSize : Sizes → ℕ
@@ -87,22 +92,40 @@ module _ (z : Sizes) (l : List ℕ) (b : BatchOf) (set : ℕ) (short : length (p
           let q : length (planBytes fixed p) ≡ n = cc in
           subst (λ (k : ℕ). take k (sets l 0 (planBytes fixed p)) ≡ planBytes fixed p) q (stored-first l (planBytes fixed p) (omega (arith, ltb-false (length l) (z .plan) e)))
 
--- A node that joins by the bytes that `join_plan` wrote for a report agrees with the node that reported it, given the batches after it. The giver started by
--- `new` or by joining and was called with any list before that batch; the batch began a new era and left no older key generation.
+-- A node joins by the bytes that `join_plan` wrote for a report. The giver started by `new` or by joining and was called with any list before that batch; the batch
+-- began a new era and left no older key generation. r₀ is the reference state that the giver's start opened.
 module _ (z : Sizes) (fits : z .items ≤ z .faults) (nodes-fit : z .nodes < 256 ^ 8) (rows-fit : z .rows < 256 ^ 8) (user-fits : z .user < 256 ^ 8)
     (some : 0 < z .nodes) (room : planSize z ≤ z .plan) (start : Start) (start-bytes : StartBytes start) (a : StateOf) (starts : startState z start ≡ done a)
-    (before : List Call) (before-bytes : All OfBytes before) (b : BatchCall) (batch-bytes : Bytes (b .bytes)) (r : ReportOf)
+    (before : List Call) (before-bytes : OfBytes before) (b : BatchCall) (batch-bytes : Bytes (b .bytes)) (r : ReportOf)
     (answered : processed z (run z a before) b .answer ≡ done r) (began : beganEra (r .batch) (eraOf (processed z (run z a before) b .state)) ≡ true)
-    (fresh : leftOlder (r .batch) (candidateNodes (processed z (run z a before) b .state .key-gen)) ≡ false) (set : ℕ) (set-fits : set < 256 ^ 8) where
-  pub agree-by-written-plan : (l : List ℕ) (n : ℕ) → planAnswered z l (r .batch) set ≡ done (found n)
-      → (places id key : ℕ) (j : Joined) → joined z places id key (take n (planLeft z l (r .batch) set)) ≡ done j
-      → (cs ds : List Call) → All (Full z) cs → All (Full z) ds → givenBatches cs ≡ givenBatches ds → Agree z (processed z (run z a before) b .state) cs (j .state) ds
-  agree-by-written-plan l n e places id key j starts-joined =
+    (fresh : leftOlder (candidateNodes (run z a before .key-gen)) (candidateNodes (processed z (run z a before) b .state .key-gen)) ≡ false) (set : ℕ) (set-fits : set < 256 ^ 8)
+    (l : List ℕ) (n : ℕ) (written : planAnswered z l (r .batch) set ≡ done (found n)) (places id key : ℕ) where
+  -- the joiner starts at the reference state of the giver's whole list
+  pub written-plan-starts : (r₀ : RefState) → refStart z start ≡ found r₀
+      → refStart z (join-start places id key (take n (planLeft z l (r .batch) set))) ≡ found (refRun z r₀ (sharedBatches z a (before ++ (batch-call b ∷ []))))
+  written-plan-starts r₀ opens =
       let o : PlanOk z (planOfBatch (r .batch) set) =
       plan-of-report z fits nodes-fit rows-fit user-fits start start-bytes a starts before before-bytes b batch-bytes r answered began fresh set set-fits in
-      let w = written-plan z l (r .batch) set (plan-short z some room (planOfBatch (r .batch) set) o) n e in
-      agree-by-plan z fits nodes-fit rows-fit user-fits start start-bytes a starts before before-bytes b batch-bytes r answered began fresh set set-fits places id key j
-      (ap (joined z places id key) (sym w) ∙ starts-joined)
+      let w = written-plan z l (r .batch) set (plan-short z some room (planOfBatch (r .batch) set) o) n written in
+      ap (λ (plan : List ℕ). refStart z (join-start places id key plan)) w
+      ∙ plan-starts z fits nodes-fit rows-fit user-fits start start-bytes a starts before before-bytes b batch-bytes r answered began fresh set set-fits r₀ opens places id key
+
+  module _ (j : Joined) (joins : joined z places id key (take n (planLeft z l (r .batch) set)) ≡ done j) where
+    -- and follows it
+    pub joiner-follows : (r₀ : RefState) → refStart z start ≡ found r₀
+        → (ds : List Call) → FollowsFrom z (refRun z r₀ (sharedBatches z a (before ++ (batch-call b ∷ [])))) (j .state) ds
+    joiner-follows r₀ opens =
+        opened-follows z fits (join-start places id key (take n (planLeft z l (r .batch) set))) (j .state) (ap joinedState joins)
+        (refRun z r₀ (sharedBatches z a (before ++ (batch-call b ∷ [])))) (written-plan-starts r₀ opens)
+
+    -- so giver and joiner agree, given the same shared batches after it
+    pub agree-by-written-plan : (cs ds : List Call) → sharedBatches z (processed z (run z a before) b .state) cs ≡ sharedBatches z (j .state) ds
+        → Agree z (processed z (run z a before) b .state) cs (j .state) ds
+    agree-by-written-plan cs ds =
+        let opens : refStart z start ≡ found (refOf a) = start-opens z start a starts in
+        follow-one z (refRun z (refOf a) (sharedBatches z a (before ++ (batch-call b ∷ [])))) (processed z (run z a before) b .state) cs (j .state) ds
+        (giver-follows z fits nodes-fit rows-fit user-fits start start-bytes a starts before before-bytes b batch-bytes r answered began fresh set set-fits (refOf a) opens cs)
+        (joiner-follows (refOf a) opens ds)
 
 -- the sizes of 01 have room for the longest plan
 pub base-plan : planSize base ≤ base .plan

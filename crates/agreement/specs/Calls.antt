@@ -1,16 +1,12 @@
 -- A node's whole list of calls: what the host passes, what each call leaves, and which batches of it are shared.
 use Prim.Native.Nat.{ℕ}
-use mathlib.Core.List.{List, [], _∷_}
-use mathlib.Core.Path.{_≡_}
-use mathlib.Core.Bool.{Bool, false, cond}
-use Rattle.bincode.specs.Read.{value}
+use mathlib.Core.List.{List, [], _∷_, map}
+use mathlib.Core.Bool.{Bool, cond}
 use Rattle.bincode.specs.Outcome.{Outcome, done, refused}
 use Rattle.bincode.specs.Sizes.{Sizes}
 use Rattle.dynamic_honey_badger.specs.State.{StateOf, started, joined, Joined}
 use Rattle.dynamic_honey_badger.specs.OwnVotes.{voteForBytes, voteToAdd, voteToRemove}
 use Rattle.dynamic_honey_badger.specs.Received.{received, returned}
-use Rattle.internal_contrib.specs.InternalContrib.{ContribOf, readBatch}
-use Rattle.process_output.specs.Refusals.{batchRow1, batchRow4}
 use Rattle.process_output.specs.Process.{BatchCall, processed}
 use Rattle.reference.specs.Step.{SharedBatch, RefReport}
 use Rattle.agreement.specs.Shared.{isPassed, sharedAnswer}
@@ -70,15 +66,18 @@ answers z s (remove-call id ∷ cs) = answers z (after z s (remove-call id)) cs
 answers z s (message-call sender bytes ∷ cs) = answers z (after z s (message-call sender bytes)) cs
 answers z s (due-call bytes ∷ cs) = answers z (after z s (due-call bytes)) cs
 
--- all batches of a list, whatever became of them
-unfoldable pub givenBatches : List Call → List SharedBatch
-givenBatches [] = []
-givenBatches (batch-call b ∷ cs) = asShared b ∷ givenBatches cs
-givenBatches (vote-call bytes ∷ cs) = givenBatches cs
-givenBatches (add-call id key ∷ cs) = givenBatches cs
-givenBatches (remove-call id ∷ cs) = givenBatches cs
-givenBatches (message-call sender bytes ∷ cs) = givenBatches cs
-givenBatches (due-call bytes ∷ cs) = givenBatches cs
+-- the batch calls of a list, and their batches, whatever became of them
+unfoldable pub batchCalls : List Call → List BatchCall
+batchCalls [] = []
+batchCalls (batch-call b ∷ cs) = b ∷ batchCalls cs
+batchCalls (vote-call bytes ∷ cs) = batchCalls cs
+batchCalls (add-call id key ∷ cs) = batchCalls cs
+batchCalls (remove-call id ∷ cs) = batchCalls cs
+batchCalls (message-call sender bytes ∷ cs) = batchCalls cs
+batchCalls (due-call bytes ∷ cs) = batchCalls cs
+
+abbrev pub givenBatches : List Call → List SharedBatch
+givenBatches cs = map asShared (batchCalls cs)
 
 -- how a node starts: `new`, or joining
 pub data Start : Type 0 where
@@ -92,14 +91,3 @@ joinedState (refused n) = refused n
 abbrev pub startState : Sizes → Start → Outcome StateOf
 startState z (new-start id key era map params) = started z id key era map params
 startState z (join-start places id key plan) = joinedState (joined z places id key plan)
-
--- the user's own form: every batch call lends full-length buffers and well-formed verdicts
-abbrev pub Full : Sizes → Call → Type 0
-Full z (batch-call b) =
-    (batchRow1 z (b .fault-places) (b .due-places) ≡ false)
-    × ((cs : List ContribOf) (c : ℕ) → readBatch z (b .bytes) ≡ value cs c → batchRow4 cs (b .verdicts) ≡ false)
-Full z (vote-call bytes) = Unit {0}
-Full z (add-call id key) = Unit {0}
-Full z (remove-call id) = Unit {0}
-Full z (message-call sender bytes) = Unit {0}
-Full z (due-call bytes) = Unit {0}

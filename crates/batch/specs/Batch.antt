@@ -1,15 +1,16 @@
 -- 01: the report is epoch, era of the batch, change, map and parameters. And the join plan that a report gives.
 use Prim.Native.Nat.{ℕ, _+_}
-use mathlib.Core.List.{List}
-use mathlib.Core.Bool.{Bool, true, false, not, cond}
+use mathlib.Core.List.{List, []}
+use mathlib.Core.Bool.{Bool, true, false, cond}
 use lib.Dec.{eqb}
 use Rattle.lists.specs.Lists.{Found, found, nothing}
 use Rattle.bincode.specs.Sizes.{Sizes}
 use Rattle.bincode.specs.Outcome.{Outcome, done, refused}
 use Rattle.pub_key_map.specs.declared.Node.{Node}
-use Rattle.pub_key_map.specs.PubKeyMap.{nodesOf}
+use Rattle.pub_key_map.specs.PubKeyMap.{nodesOf, mapHeld}
 use Rattle.params.specs.declared.Params.{Params}
-use Rattle.change.specs.Change.{ChangeStateOf, none, inProgress, complete, stateOf}
+use Rattle.params.specs.Params.{noParams}
+use Rattle.change.specs.Change.{ChangeStateOf, none, inProgress, complete, stateOf, stateHeld}
 use Rattle.join_plan.specs.JoinPlan.{PlanOf, row1, planWritten, planSaid}
 use Rattle.batch.specs.declared.Batch.{Batch}
 use Rattle.batch.specs.declared.Planned.{Planned}
@@ -25,26 +26,15 @@ pub record BatchOf : Type 0 where
 abbrev pub batchOf : Batch → BatchOf
 batchOf b = record { epoch = b .epoch; era = b .era; change = stateOf (b .change); keys = nodesOf (b .«pub_keys»); params = b .params }
 
+-- what stands where there is no report
+abbrev pub noBatch : Batch
+noBatch = record { epoch = 0; era = 0; change = stateHeld none; «pub_keys» = mapHeld []; params = noParams }
+
 -- something changed, so there is a plan
 abbrev pub changed : ChangeStateOf → Bool
 changed none = false
 changed (inProgress c) = true
 changed (complete c) = true
-
--- A proper plan (demand 3) is of a batch that began a new era: the era after it is the one behind its epoch. The report alone does not say so, since a winner
--- equal to the candidate map is reported too and restarts nothing.
-unfoldable pub beganEra : BatchOf → ℕ → Bool
-beganEra b era = eqb era (b .epoch + 1)
-
--- And the batch left no older key generation: one that runs after it is the one that it reports in progress. A schedule that wins keeps an older one.
-abbrev pub isProgress : ChangeStateOf → Bool
-isProgress none = false
-isProgress (inProgress c) = true
-isProgress (complete c) = false
-
-unfoldable pub leftOlder : BatchOf → Found (List Node) → Bool
-leftOlder b (found candidate) = not (isProgress (b .change))
-leftOlder b nothing = false
 
 -- the plan of a report: the next epoch begins the joiner's era
 abbrev pub planOfBatch : BatchOf → ℕ → PlanOf

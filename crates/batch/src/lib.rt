@@ -3,7 +3,7 @@ ghost use mathlib.Core.Path.{_≡_};
 ghost use mathlib.Core.Bool.{not};
 ghost use Rattle.bincode.specs.Sizes.{base};
 ghost use Rattle.change.specs.Change.{stateOf};
-ghost use Rattle.batch.specs.Batch.{batchOf, changed, planLeft, planAnswered, saidPlanned};
+ghost use Rattle.batch.specs.Batch.{batchOf, noBatch, changed, planLeft, planAnswered, saidPlanned};
 use change::ChangeState;
 use change::Progress;
 use join_plan::JoinPlan;
@@ -28,6 +28,19 @@ pub enum Planned {
 }
 
 impl Batch {
+    // What stands where there is no report.
+    pub fn empty() -> Self
+        ensures { λ r. ⌜ r ≡ noBatch ⌝ }
+    {
+        Batch {
+            epoch: 0,
+            era: 0,
+            change: ChangeState::none(),
+            pub_keys: PubKeyMap::empty(),
+            params: Params::empty(),
+        }
+    }
+
     // The plan of this report, with the key set that the host lends; none where nothing changed.
     pub fn join_plan(self, buf: &mut [u8], pub_key_set: u64) -> Planned
         ensures { λ r. ⌜ (now (buf .exit) ≡ planLeft base (now (buf .entry)) (batchOf self) «pub_key_set») × (saidPlanned r ≡ planAnswered base (now (buf .entry)) (batchOf self) «pub_key_set») ⌝ }

@@ -4,4 +4,6 @@ pub mod ItemLaws
 pub mod RereadLaws
 pub mod StandLaws
 pub mod CodeLaws
+pub mod CauseLaws
+pub mod RunCauses
 pub mod WriteLaws

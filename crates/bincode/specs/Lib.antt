@@ -3,6 +3,7 @@ pub mod Numbers
 pub mod Items
 pub mod Stands
 pub mod Codes
+pub mod Causes
 pub mod Writing
 pub mod Answer
 pub mod Sizes

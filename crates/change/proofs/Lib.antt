@@ -1,2 +1,3 @@
 pub mod ChangeLaws
 pub mod ChangeCodes
+pub mod ChangeCauses

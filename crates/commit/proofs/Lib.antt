@@ -1,4 +1,6 @@
 pub mod PartLaws
+pub mod ReadableLaws
 pub mod WorkLaws
 pub mod TurnLaws
 pub mod BatchLaws
+pub mod PageLaws

@@ -83,7 +83,7 @@ module _ (z : Sizes) (s : List ℕ) (b : Budget) (at : ℕ) (x : ContribOf) (c :
 
 -- a batch that was read is a count, and as many contributions behind it
 module _ (z : Sizes) (s : List ℕ) (cs : List ContribOf) (c : ℕ) (e : readBatch z s ≡ value cs c) where
-  batch-count : (n : ℕ) × (d : ℕ) × (readNum 8 s 0 ≡ value n d) × (items (readContrib z s) spending n (opening z) d ≡ value cs c)
+  pub batch-count : (n : ℕ) × (d : ℕ) × (readNum 8 s 0 ≡ value n d) × (items (readContrib z s) spending n (opening z) d ≡ value cs c)
   unfolding readBatch whole readContribs
   batch-count =
       let a = cond-value (whole (readContribs z s) s) (ltb (z .batch) (length s)) 3 e .1 in

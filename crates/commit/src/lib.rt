@@ -15,9 +15,10 @@ ghost use Rattle.key_gen.specs.KeyGen.{saidOutcome};
 ghost use Rattle.key_gen_message.specs.KeyGenMessage.{SignedKeyGenMsgOf, signedOf as messageOf, readSignedKeyGenMsg};
 ghost use Rattle.key_gen_state.specs.KeyGenState as running;
 ghost use Rattle.internal_contrib.specs.declared.Budget.{Budget};
-ghost use Rattle.internal_contrib.specs.InternalContrib.{ContribOf, readContrib, readBatch};
+ghost use Rattle.internal_contrib.specs.InternalContrib.{ContribOf, readContrib};
 ghost use Rattle.internal_contrib.specs.Places.{placed};
 ghost use Rattle.dynamic_honey_badger.specs.State.{stateOf};
+ghost use Rattle.commit.specs.Readable.{readableContribs};
 ghost use Rattle.commit.specs.Steps.{workOf, messageDoneOf, messageDone, byKeyGen, toldBy, saidTold, begun, blame, owe, committedVote, committedMessage, committedContrib, firstVerdict, otherVerdicts};
 use bincode::ReadU64;
 use bincode::Step;
@@ -225,9 +226,9 @@ impl Work {
         w.commit_messages(s, e.messages + 8, e.message_count, e.id, verdicts)
     }
 
-    // The contributions of a batch, ids ascending.
+    // The contributions of a batch, ids ascending; of bytes that are no batch, those before the first that cannot be read.
     pub fn commit_batch(self, s: &[u8], verdicts: &[u8]) -> Self
-        ensures { λ r. ⌜ ((cs : List ContribOf) (c : ℕ) → readBatch base (now (s .entry)) ≡ value cs c → workOf (now (verdicts .entry)) r ≡ foldl (committedContrib base) (workOf (now (verdicts .entry)) self) cs) ⌝ }
+        ensures { λ r. ⌜ workOf (now (verdicts .entry)) r ≡ foldl (committedContrib base) (workOf (now (verdicts .entry)) self) (readableContribs base (now (s .entry))) ⌝ }
     {
         let ReadU64::Value(n, first) = bincode::read_u64(s, 0) else {
             return self;

@@ -7,10 +7,10 @@ ghost use Rattle.lists.specs.Lists.{found};
 ghost use Rattle.bincode.specs.Sizes.{base};
 ghost use Rattle.pub_key_map.specs.PubKeyMap.{nodesOf};
 ghost use Rattle.key_gen.specs.KeyGen.{keyGenOf};
-ghost use Rattle.recipe.specs.Recipe.{emptyRecipe};
+ghost use Rattle.recipe.specs.Recipe.{emptyRecipe, NoRecipeEmpty};
 ghost use Rattle.vote_counter.specs.VoteCounter.{counterOf, computeWinner};
 ghost use Rattle.key_gen_state.specs.KeyGenState as running;
-ghost use Rattle.dynamic_honey_badger.specs.State.{stateOf, withParams, candidateNodes};
+ghost use Rattle.dynamic_honey_badger.specs.State.{stateOf, newEra, withParams, candidateNodes};
 ghost use Rattle.decision.specs.Decision.{decidedOf, electedOf, completedBy, isCandidate, mapWins, withSchedule, scheduleWins, electedBy, decide, emptyWins};
 use change::Change;
 use change::ChangeKind;
@@ -25,7 +25,7 @@ use recipe::Recipe;
 use vote_counter::VoteCounter;
 use vote_counter::Winner;
 
-// The state after a batch, the reported change, whether a part is due, and the recipe where key generation completed.
+// The state after a batch, the reported change, whether a part is due, and the recipe where key generation completed; else it is the empty one.
 pub struct Decision {
     pub state: DynamicHoneyBadger,
     pub change: ChangeState,
@@ -73,14 +73,26 @@ fn decided(state: DynamicHoneyBadger, change: ChangeState, part_due: bool) -> De
     }
 }
 
+// A new era with a map: no votes, and no stored messages of lower eras. The Rust's `restart_honey_badger`.
+fn restart(mut state: DynamicHoneyBadger, era: u64, pub_keys: PubKeyMap) -> DynamicHoneyBadger
+    ensures { λ r. ⌜ stateOf r ≡ newEra era (nodesOf «pub_keys») (stateOf state) ⌝ }
+{
+    let counter = state.vote_counter;
+    let store = state.store;
+    let kept = store.from_era(era);
+    state.vote_counter = VoteCounter::new(counter.our_id, counter.secret_key, pub_keys, era);
+    state.store = kept;
+    state
+}
+
 // Step 6: the candidate map takes effect, key generation ends, a new era begins.
 fn complete(mut state: DynamicHoneyBadger, key_gen: KeyGen, era: u64) -> Decision
-    ensures { λ r. ⌜ ((counts : List ℕ) → decidedOf era r ≡ completedBy era (stateOf state) (found (record { key-gen = keyGenOf «key_gen»; counts = counts }))) ⌝ }
+    ensures { λ r. ⌜ ((counts : List ℕ) → decidedOf era r ≡ completedBy era (stateOf state) (found (record { key-gen = keyGenOf «key_gen»; counts = counts }))) × NoRecipeEmpty (r .«has_recipe») (r .recipe) ⌝ }
 {
     let map = key_gen.pub_keys;
     state.key_gen_state = KeyGenState::empty();
     Decision {
-        state: state.restart(era, map),
+        state: restart(state, era, map),
         change: ChangeState::complete(Change::node_change(map)),
         part_due: false,
         has_recipe: true,
@@ -102,7 +114,7 @@ fn is_candidate(state: KeyGenState, map: PubKeyMap) -> bool
 
 // Step 7 where a map wins: the candidate map again restarts nothing; another one begins an era and a fresh key generation.
 fn map_wins(state: DynamicHoneyBadger, era: u64, map: PubKeyMap) -> Decision
-    ensures { λ r. ⌜ decidedOf era r ≡ mapWins base era (stateOf state) (nodesOf map) ⌝ }
+    ensures { λ r. ⌜ (decidedOf era r ≡ mapWins base era (stateOf state) (nodesOf map)) × NoRecipeEmpty (r .«has_recipe») (r .recipe) ⌝ }
 {
     let change = ChangeState::in_progress(Change::node_change(map));
     let running = state.key_gen_state;
@@ -112,9 +124,10 @@ fn map_wins(state: DynamicHoneyBadger, era: u64, map: PubKeyMap) -> Decision
     let counter = state.vote_counter;
     let current = counter.pub_keys;
     let part_due = network_info::is_member(map, counter.our_id);
-    let next = state.restart(era, current);
-    let begun = next.start_key_gen(map);
-    decided(begun, change, part_due)
+    let mut next = restart(state, era, current);
+    let after = next.vote_counter;
+    next.key_gen_state = KeyGenState::new(KeyGen::new(after.our_id, map));
+    decided(next, change, part_due)
 }
 
 // A schedule put into the parameters, all else as before.
@@ -134,12 +147,12 @@ fn with_schedule(mut state: DynamicHoneyBadger, schedule: EncryptionSchedule) ->
 
 // Step 7 where a schedule wins: it is put into the parameters, an era begins, key generation is kept.
 fn schedule_wins(state: DynamicHoneyBadger, era: u64, schedule: EncryptionSchedule) -> Decision
-    ensures { λ r. ⌜ decidedOf era r ≡ scheduleWins era (stateOf state) schedule ⌝ }
+    ensures { λ r. ⌜ (decidedOf era r ≡ scheduleWins era (stateOf state) schedule) × NoRecipeEmpty (r .«has_recipe») (r .recipe) ⌝ }
 {
     let counter = state.vote_counter;
     let map = counter.pub_keys;
     let changed = with_schedule(state, schedule);
-    let next = changed.restart(era, map);
+    let next = restart(changed, era, map);
     decided(
         next,
         ChangeState::complete(Change::schedule(schedule)),
@@ -149,7 +162,7 @@ fn schedule_wins(state: DynamicHoneyBadger, era: u64, schedule: EncryptionSchedu
 
 // Steps 7 and 8.
 fn by_winner(state: DynamicHoneyBadger, era: u64) -> Decision
-    ensures { λ r. ⌜ decidedOf era r ≡ electedBy base era (stateOf state) (computeWinner (stateOf state .counter)) ⌝ }
+    ensures { λ r. ⌜ (decidedOf era r ≡ electedBy base era (stateOf state) (computeWinner (stateOf state .counter))) × NoRecipeEmpty (r .«has_recipe») (r .recipe) ⌝ }
 {
     let counter = state.vote_counter;
     let e = elect(counter);
@@ -167,7 +180,7 @@ fn by_winner(state: DynamicHoneyBadger, era: u64) -> Decision
 
 // Steps 6 to 8, with the era that a change begins.
 pub fn decide(state: DynamicHoneyBadger, era: u64) -> Decision
-    ensures { λ r. ⌜ decidedOf era r ≡ decide base era (stateOf state) ⌝ }
+    ensures { λ r. ⌜ (decidedOf era r ≡ decide base era (stateOf state)) × NoRecipeEmpty (r .«has_recipe») (r .recipe) ⌝ }
 {
     let key_gen_state = state.key_gen_state;
     if key_gen_state.is_ready() {

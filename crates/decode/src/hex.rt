@@ -1,7 +1,6 @@
 // Bytes as lowercase hexadecimal digits, two to a byte.
 ghost use Prim.Native.Nat.{_≤_, _<_};
 ghost use lib.ListN.{length};
-use libc::STDOUT_FILENO;
 
 pub enum Digit {
     Value(u8),
@@ -50,23 +49,4 @@ pub(crate) fn unhex(s: &[u8], out: &mut [u8]) -> Unhexed {
         i += 1;
     }
     Unhexed::Bytes(n)
-}
-
-fn letter(d: u8) -> u8 {
-    let x = d % 16;
-    if x < 10 { b'0' + x } else { b'a' + (x - 10) }
-}
-
-// Writes the digits of bytes to standard output.
-pub(crate) fn print(s: &[u8]) {
-    if s.len() == 0 {
-        io::write_all(STDOUT_FILENO, b"-");
-        return;
-    }
-    let mut i: usize = 0;
-    while i < s.len() {
-        let pair = [letter(s[i] / 16), letter(s[i])];
-        io::write_all(STDOUT_FILENO, &pair);
-        i += 1;
-    }
 }

@@ -4,8 +4,11 @@ mod counts;
 mod hex;
 mod lines;
 mod show;
+mod text;
+mod values;
 
 fn main() {
     let mut line = [0u8; 140001];
-    lines::read_all(&mut line);
+    let mut out = [0u8; 200000];
+    lines::read_all(&mut line, &mut out);
 }

@@ -37,6 +37,13 @@ pub struct DueList {
 impl DueList {
     pub const LIMIT: usize = 1025;
 
+    // The items of an array below a count.
+    pub fn new(count: usize, items: [DueItem; DueList::LIMIT]) -> Self
+        ensures { λ r. ⌜ r ≡ record { count = count; items = items } ⌝ }
+    {
+        DueList { count, items }
+    }
+
     pub fn empty() -> Self
         ensures { λ r. ⌜ r ≡ noDue ⌝ }
     {

@@ -1,11 +1,12 @@
--- Laws of a node's state: how it starts.
+-- Laws of a node's state: how it starts, and what an era empties.
 -- Assumes nothing.
 use mathlib.Core.Bool.{true, false}
 use mathlib.Core.List.{[]}
-use mathlib.Core.Path.{_≡_, refl, sym}
+use mathlib.Core.Path.{_≡_, refl, sym, ap, _∙_}
 use Prim.Native.Nat.{ℕ}
+use Rattle.lists.specs.Lists.{Found, found}
 use Rattle.lists.proofs.ListLaws.{false-true}
-use Rattle.bincode.specs.Sizes.{Sizes}
+use Rattle.bincode.specs.Sizes.{Sizes, base}
 use Rattle.pub_key_map.specs.declared.PubKeyMap.{PubKeyMap}
 use Rattle.pub_key_map.specs.PubKeyMap.{nodesOf}
 use Rattle.change.specs.declared.ChangeKind.{ChangeKind}
@@ -14,11 +15,34 @@ use Rattle.change.specs.declared.ChangeState.{ChangeState}
 use Rattle.change.specs.declared.Progress.{Progress}
 use Rattle.change.specs.declared.Progress.the-variants as progress
 use Rattle.change.specs.Change.{stateOfProgress, stateOf as progressOf}
+use Rattle.key_gen.specs.declared.KeyGen.{KeyGen}
+use Rattle.key_gen.specs.KeyGen.{KeyGenOf, keyGenOf, freshHeld}
+use Rattle.key_gen.proofs.KeyGenLaws.{fresh}
+use Rattle.key_gen_state.specs.declared.KeyGenState.{KeyGenState}
+use Rattle.key_gen_state.specs.KeyGenState as running
 use Rattle.join_plan.specs.JoinPlan.{PlanOf}
 use Rattle.joining.specs.declared.StartOutcome.{StartOutcome}
 use Rattle.joining.specs.declared.StartOutcome.the-variants as start
 use Rattle.joining.specs.Starting.{StartOf, saidStart}
-use Rattle.dynamic_honey_badger.specs.State.{StateOf, keyGenFor, partDue, opened, startedFrom, inProgressMap, joinedBy, joinedWith, joinedFrom}
+use Rattle.dynamic_honey_badger.specs.State.{StateOf, stateOf, withKeyGen, keyGenFor, partDue, opened, startedFrom, inProgressMap, Joined, joinedBy, joinedWith, joinedFrom}
+use Rattle.dynamic_honey_badger.specs.declared.DynamicHoneyBadger.{DynamicHoneyBadger}
+
+-- a fresh key generation in the place of what was there
+pub key-gen-begun : (s : DynamicHoneyBadger) (m : PubKeyMap) (k : KeyGen) (g : KeyGenState)
+    → k ≡ freshHeld (s .«vote_counter» .«our_id») m → running.stateOf g ≡ found (running.freshState base (keyGenOf k))
+    → withKeyGen (stateOf s) (running.stateOf g) ≡ keyGenFor base (nodesOf m) (stateOf s)
+unfolding keyGenFor
+key-gen-begun s m k g e f =
+    ap {B = StateOf} (λ (x : Found running.KeyGenStateOf). withKeyGen (stateOf s) x) (f ∙ ap {B = Found running.KeyGenStateOf} (λ (y : KeyGenOf). found (running.freshState base y)) (ap keyGenOf e ∙ fresh (s .«vote_counter» .«our_id») m))
+
+-- beside a refusal it does not matter what would have been opened
+pub start-denied : (id key era n : ℕ) (o : StartOutcome) (a : StartOf) (s : StateOf) → o ≡ start.Refused n → saidStart o s ≡ startedFrom id key era (saidStart o a)
+start-denied id key era n o a s e =
+    ap (λ (x : StartOutcome). saidStart x s) e ∙ sym (ap (λ (x : StartOutcome). startedFrom id key era (saidStart x a)) e)
+
+pub join-denied : (z : Sizes) (id key n : ℕ) (o : StartOutcome) (p : PlanOf) (j : Joined) → o ≡ start.Refused n → saidStart o j ≡ joinedFrom z id key (saidStart o p)
+join-denied z id key n o p j e =
+    ap (λ (x : StartOutcome). saidStart x j) e ∙ sym (ap (λ (x : StartOutcome). joinedFrom z id key (saidStart x p)) e)
 
 -- a node starts where its map and parameters are accepted, and not where they are refused
 pub start-said : (id key era : ℕ) (o : StartOutcome) (a : StartOf) → saidStart o (opened id key era (a .keys) (a .params)) ≡ startedFrom id key era (saidStart o a)

@@ -2,7 +2,7 @@
 use Prim.Native.Nat.{ℕ}
 use mathlib.Core.Path.{_≡_}
 use mathlib.Core.List.{List}
-use mathlib.Core.Bool.{cond}
+use mathlib.Core.Bool.{Bool, true, false, cond}
 use lib.Dec.{eqb}
 use Rattle.lists.specs.Lists.{Found, found, nothing}
 use Rattle.bincode.specs.Read.{Read, value, refuse, whole}
@@ -11,7 +11,7 @@ use Rattle.bincode.specs.Numbers.{fixed}
 use Rattle.bincode.specs.Sizes.{Sizes}
 use Rattle.change.specs.Change.{ChangeOf, nodeChange, readChange}
 use Rattle.votes.specs.declared.SignedVote.{SignedVote}
-use Rattle.votes.specs.Votes.{SignedVoteOf, signedOf}
+use Rattle.votes.specs.Votes.{SignedVoteOf, signedOf, signedHeld, noSigned}
 use Rattle.vote_counter.specs.VoteCounter.{Signed, signVoteFor}
 use Rattle.node_change.specs.NodeChange.{row13, withNode, withoutNode}
 use Rattle.dynamic_honey_badger.specs.State.{StateOf, nodesIn, withCounter, isValidator, stateOf}
@@ -67,6 +67,14 @@ saidDone (vote.Refused n) v = refused n
 abbrev pub votedOf : Voted → VotedOf
 votedOf r = votedAs (stateOf (r .state)) (saidDone (r .outcome) (r .vote))
 
--- a refusal hands back the very state that was given, places that do not count included
-abbrev pub VoteRefusedKeeps : Voted → DynamicHoneyBadger → Type 0
-VoteRefusedKeeps r s = (n : ℕ) → r .outcome ≡ vote.Refused n → r .state ≡ s
+-- where no vote was cast stand the very state that was given, places that do not count included, and the empty vote
+abbrev pub wasCast : VoteDone → Bool
+wasCast vote.Cast = true
+wasCast vote.Nothing = false
+wasCast (vote.Refused n) = false
+
+abbrev pub notCast : DynamicHoneyBadger → VoteDone → Voted
+notCast s o = record { state = s; outcome = o; vote = signedHeld noSigned }
+
+abbrev pub NotCastKeeps : Voted → DynamicHoneyBadger → Type 0
+NotCastKeeps r s = wasCast (r .outcome) ≡ false → r ≡ notCast s (r .outcome)

@@ -1,23 +1,28 @@
 -- The state of a node: what it holds, how it starts, and what a new era does to it.
 use Prim.Native.Nat.{ℕ}
+use mathlib.Core.Path.{_≡_}
 use mathlib.Core.List.{List, [], _∷_}
 use mathlib.Core.Bool.{Bool, true, false, cond, _||_}
 use Rattle.lists.specs.Lists.{Found, found, nothing}
 use Rattle.bincode.specs.Outcome.{Outcome, done, refused}
 use Rattle.bincode.specs.Sizes.{Sizes}
 use Rattle.pub_key_map.specs.declared.Node.{Node}
+use Rattle.pub_key_map.specs.declared.PubKeyMap.{PubKeyMap}
+use Rattle.pub_key_map.specs.PubKeyMap.{mapHeld}
 use Rattle.network_info.specs.NetworkInfo.{isMember, keyOf}
 use Rattle.params.specs.declared.Params.{Params}
+use Rattle.params.specs.Params.{noParams}
 use Rattle.change.specs.Change.{nodeChange, encryptionSchedule, ChangeStateOf, none, inProgress, complete}
-use Rattle.vote_counter.specs.VoteCounter.{CounterOf, newCounter, counterOf, isKey}
+use Rattle.vote_counter.specs.VoteCounter.{CounterOf, newCounter, counterOf, newHeld, isKey}
 use Rattle.key_gen_state.specs.KeyGenState as running
 use Rattle.key_gen_message.specs.KeyGenMessage.{SignedKeyGenMsgOf}
-use Rattle.message_store.specs.MessageStore.{fromEra, storeOf}
+use Rattle.message_store.specs.MessageStore.{fromEra, storeOf, noStore}
 use Rattle.due.specs.declared.DueKind.the-variants.{Part}
 use Rattle.due.specs.declared.DueItem.{DueItem}
 use Rattle.join_plan.specs.JoinPlan.{PlanOf}
+use Rattle.joining.specs.declared.StartOutcome.the-variants as start
 use Rattle.joining.specs.Starting.{StartOf, startChecked, joinChecked, saidStart}
-use Rattle.due.specs.Due.{dueOf}
+use Rattle.due.specs.Due.{dueOf, noDue}
 use Rattle.dynamic_honey_badger.specs.declared.DynamicHoneyBadger.{DynamicHoneyBadger}
 use Rattle.dynamic_honey_badger.specs.declared.Started.{Started}
 use Rattle.dynamic_honey_badger.specs.declared.JoinStarted.{JoinStarted}
@@ -126,7 +131,7 @@ joinedFrom z id key (refused n) = refused n
 unfoldable pub joined : Sizes → ℕ → ℕ → ℕ → List ℕ → Outcome Joined
 joined z places id key plan = joinedFrom z id key (joinChecked z places id key plan)
 
--- as code holds it; beside a refusal the state and the due list do not count
+-- as code holds it
 abbrev pub stateOf : DynamicHoneyBadger → StateOf
 stateOf d =
     record {
@@ -141,3 +146,24 @@ startedOf r = saidStart (r .outcome) (stateOf (r .state))
 
 abbrev pub joinedOf : JoinStarted → Outcome Joined
 joinedOf r = saidStart (r .outcome) (record { state = stateOf (r .state); due = dueOf (r .due) })
+
+-- the struct of a state that is opened
+abbrev pub openedHeld : ℕ → ℕ → ℕ → PubKeyMap → Params → DynamicHoneyBadger
+openedHeld id key era m p = record { params = p; «vote_counter» = newHeld id key m era; «key_gen_state» = running.noKeyGen; store = noStore }
+
+-- what stands beside a refused start: own id and key as lent, era 0, the empty map, the empty parameters, no votes, no key generation, nothing stored; and no
+-- due item
+abbrev pub notOpened : ℕ → ℕ → DynamicHoneyBadger
+notOpened id key = openedHeld id key 0 (mapHeld []) noParams
+
+abbrev pub notStarted : ℕ → ℕ → ℕ → Started
+notStarted id key n = record { outcome = start.Refused n; state = notOpened id key }
+
+abbrev pub StartRefusedEmpty : Started → ℕ → ℕ → Type 0
+StartRefusedEmpty r id key = (n : ℕ) → r .outcome ≡ start.Refused n → r ≡ notStarted id key n
+
+abbrev pub notJoined : ℕ → ℕ → ℕ → JoinStarted
+notJoined id key n = record { outcome = start.Refused n; state = notOpened id key; due = noDue }
+
+abbrev pub JoinRefusedEmpty : JoinStarted → ℕ → ℕ → Type 0
+JoinRefusedEmpty r id key = (n : ℕ) → r .outcome ≡ start.Refused n → r ≡ notJoined id key n

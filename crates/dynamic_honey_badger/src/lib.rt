@@ -3,17 +3,18 @@ ghost use mathlib.Core.Path.{_≡_};
 ghost use Rattle.bincode.specs.Sizes.{base};
 ghost use Rattle.pub_key_map.specs.PubKeyMap.{nodesOf};
 ghost use Rattle.change.specs.Change.{changeOf, stateOf as progressOf};
-ghost use Rattle.votes.specs.Votes.{signedOf, signedHeld, noSigned};
+ghost use Rattle.votes.specs.Votes.{signedOf};
 ghost use Rattle.network_info.specs.NetworkInfo.{keyOf};
 ghost use Rattle.vote_counter.specs.VoteCounter.{addPending, counterOf, isKey, pendingVotes};
-ghost use Rattle.vote_counter.specs.Answers.{pendingAt, saidPending};
+ghost use Rattle.vote_counter.specs.Answers.{pendingAt, saidPending, NonePendingEmpty};
 ghost use Rattle.key_gen_message.specs.KeyGenMessage as key-gen;
 ghost use Rattle.key_gen_state.specs.KeyGenState as running;
 ghost use Rattle.message.specs.Message.{contentOf};
-ghost use Rattle.message_store.specs.MessageStore.{messageAt, saidStored};
+ghost use Rattle.message_store.specs.MessageStore.{messageAt, saidStored, NoneStoredEmpty};
 ghost use Rattle.due.specs.Due.{dueOf};
-ghost use Rattle.dynamic_honey_badger.specs.State.{stateOf, inProgressMap, isValidator, candidateNodes, validUnder, newEra, keyGenFor, partDue, opened, started, startedOf, joinedBy, joined, joinedOf};
-ghost use Rattle.dynamic_honey_badger.specs.OwnVotes.{votedOf, VoteRefusedKeeps, voteFor, voteForBytes, voteToAdd, voteToRemove};
+ghost use Rattle.joining.specs.declared.StartOutcome.the-variants.{Accepted};
+ghost use Rattle.dynamic_honey_badger.specs.State.{stateOf, inProgressMap, isValidator, candidateNodes, validUnder, partDue, openedHeld, notOpened, started, startedOf, StartRefusedEmpty, joinedBy, joined, joinedOf, JoinRefusedEmpty};
+ghost use Rattle.dynamic_honey_badger.specs.OwnVotes.{votedOf, notCast, NotCastKeeps, voteFor, voteForBytes, voteToAdd, voteToRemove};
 ghost use Rattle.dynamic_honey_badger.specs.Received.{handledOf, MessageRefusedKeeps, keyGenIn, receivedKeyGen, receivedContent, received, votedIn, messageEra};
 ghost use Rattle.dynamic_honey_badger.specs.Asked.{nextEpoch, saidNext, someBy, shouldPropose};
 use bincode::Step;
@@ -52,13 +53,13 @@ pub struct DynamicHoneyBadger {
     pub store: MessageStore,
 }
 
-// A node that starts, or a refusal; then the state does not count.
+// A node that starts, or a refusal; the state beside it is then the empty one.
 pub struct Started {
     pub outcome: StartOutcome,
     pub state: DynamicHoneyBadger,
 }
 
-// A node that joins, with its due list, or a refusal; then neither counts.
+// A node that joins, with its due list, or a refusal; state and list beside it are then the empty ones.
 pub struct JoinStarted {
     pub outcome: StartOutcome,
     pub state: DynamicHoneyBadger,
@@ -72,7 +73,7 @@ pub enum VoteDone {
     Refused(u8),
 }
 
-// The state after an own vote; the vote to broadcast stands beside it, empty where none was cast.
+// The state after an own vote; the vote to broadcast stands beside it. Where none was cast it is empty, and the state is the one given.
 pub struct Voted {
     pub state: DynamicHoneyBadger,
     pub outcome: VoteDone,
@@ -169,7 +170,7 @@ fn due_part(map: PubKeyMap, our_id: u32, era: u64) -> DueList
 impl DynamicHoneyBadger {
     // A state without votes, key generation and stored messages.
     fn open(our_id: u32, secret_key: u64, era: u64, pub_keys: PubKeyMap, params: Params) -> Self
-        ensures { λ r. ⌜ stateOf r ≡ opened «our_id» «secret_key» era (nodesOf «pub_keys») params ⌝ }
+        ensures { λ r. ⌜ r ≡ openedHeld «our_id» «secret_key» era «pub_keys» params ⌝ }
     {
         DynamicHoneyBadger {
             params,
@@ -179,23 +180,36 @@ impl DynamicHoneyBadger {
         }
     }
 
+    // What stands beside a refused start: own id and key as lent, era 0, no nodes, empty parameters.
+    fn not_opened(our_id: u32, secret_key: u64) -> Self
+        ensures { λ r. ⌜ r ≡ notOpened «our_id» «secret_key» ⌝ }
+    {
+        DynamicHoneyBadger::open(our_id, secret_key, 0, PubKeyMap::empty(), Params::empty())
+    }
+
     // Starts a node from a map and parameters.
     pub fn new(our_id: u32, secret_key: u64, era: u64, map: &[u8], params: &[u8]) -> Started
-        ensures { λ r. ⌜ startedOf r ≡ started base «our_id» «secret_key» era (now (map .entry)) (now (params .entry)) ⌝ }
+        ensures { λ r. ⌜ (startedOf r ≡ started base «our_id» «secret_key» era (now (map .entry)) (now (params .entry))) × StartRefusedEmpty r «our_id» «secret_key» ⌝ }
     {
         let c = joining::check_starting(secret_key, map, params);
         let pub_keys = c.pub_keys;
         let read = c.params;
         let outcome = c.outcome;
-        Started {
-            outcome,
-            state: DynamicHoneyBadger::open(our_id, secret_key, era, pub_keys, read),
+        match outcome {
+            StartOutcome::Accepted => Started {
+                outcome,
+                state: DynamicHoneyBadger::open(our_id, secret_key, era, pub_keys, read),
+            },
+            StartOutcome::Refused(_) => Started {
+                outcome,
+                state: DynamicHoneyBadger::not_opened(our_id, secret_key),
+            },
         }
     }
 
     // Starts a node from a join plan: a fresh key generation where a map is in progress.
     pub fn new_joining(our_id: u32, secret_key: u64, plan: &[u8], due_places: usize) -> JoinStarted
-        ensures { λ r. ⌜ joinedOf r ≡ joined base «due_places» «our_id» «secret_key» (now (plan .entry)) ⌝ }
+        ensures { λ r. ⌜ (joinedOf r ≡ joined base «due_places» «our_id» «secret_key» (now (plan .entry))) × JoinRefusedEmpty r «our_id» «secret_key» ⌝ }
     {
         let c = joining::check_joining(due_places, our_id, secret_key, plan);
         let read = c.plan;
@@ -203,50 +217,48 @@ impl DynamicHoneyBadger {
         let params = read.params;
         let change = read.change;
         let outcome = c.outcome;
-        let state = DynamicHoneyBadger::open(our_id, secret_key, read.era, pub_keys, params);
-        state.join(outcome, our_id, read.era, change)
+        match outcome {
+            StartOutcome::Accepted => {
+                let state = DynamicHoneyBadger::open(
+                    our_id,
+                    secret_key,
+                    read.era,
+                    pub_keys,
+                    params,
+                );
+                state.join(our_id, read.era, change)
+            }
+            StartOutcome::Refused(_) => {
+                let state = DynamicHoneyBadger::not_opened(our_id, secret_key);
+                JoinStarted {
+                    outcome,
+                    state,
+                    due: DueList::empty(),
+                }
+            }
+        }
     }
 
     // What the plan's change asks of a node that joins.
-    fn join(self, outcome: StartOutcome, our_id: u32, era: u64, state: ChangeState) -> JoinStarted
-        ensures { λ r. ⌜ (r .outcome ≡ outcome) × (record { state = stateOf (r .state); due = dueOf (r .due) } ≡ joinedBy base «our_id» era (progressOf state) (stateOf self)) ⌝ }
+    fn join(mut self, our_id: u32, era: u64, state: ChangeState) -> JoinStarted
+        ensures { λ r. ⌜ (r .outcome ≡ Accepted) × (record { state = stateOf (r .state); due = dueOf (r .due) } ≡ joinedBy base «our_id» era (progressOf state) (stateOf self)) ⌝ }
     {
         let change = state.change;
         let map = change.map;
         if is_map_in_progress(state) {
+            let counter = self.vote_counter;
+            self.key_gen_state = KeyGenState::new(KeyGen::new(counter.our_id, map));
             return JoinStarted {
-                outcome,
-                state: self.start_key_gen(map),
+                outcome: StartOutcome::Accepted,
+                state: self,
                 due: due_part(map, our_id, era),
             };
         }
         JoinStarted {
-            outcome,
+            outcome: StartOutcome::Accepted,
             state: self,
             due: DueList::empty(),
         }
-    }
-
-    // A new era with a map: no votes, and no stored messages of lower eras. The Rust's `restart_honey_badger`.
-    pub fn restart(mut self, era: u64, pub_keys: PubKeyMap) -> Self
-        ensures { λ r. ⌜ stateOf r ≡ newEra era (nodesOf «pub_keys») (stateOf self) ⌝ }
-    {
-        let counter = self.vote_counter;
-        let store = self.store;
-        let kept = store.from_era(era);
-        self.vote_counter = VoteCounter::new(counter.our_id, counter.secret_key, pub_keys, era);
-        self.store = kept;
-        self
-    }
-
-    // A fresh key generation for a map. The Rust's `update_key_gen`, where the map is a new one.
-    pub fn start_key_gen(mut self, map: PubKeyMap) -> Self
-        ensures { λ r. ⌜ stateOf r ≡ keyGenFor base (nodesOf map) (stateOf self) ⌝ }
-    {
-        let counter = self.vote_counter;
-        let state = KeyGenState::new(KeyGen::new(counter.our_id, map));
-        self.key_gen_state = state;
-        self
     }
 
     // Whether the own id is in the current map.
@@ -260,7 +272,7 @@ impl DynamicHoneyBadger {
 
     // An own vote for a change; a non-validator's does nothing.
     fn vote(mut self, change: Change) -> Voted
-        ensures { λ r. ⌜ (votedOf r ≡ voteFor base (stateOf self) (changeOf change)) × VoteRefusedKeeps r self ⌝ }
+        ensures { λ r. ⌜ (votedOf r ≡ voteFor base (stateOf self) (changeOf change)) × NotCastKeeps r self ⌝ }
     {
         if !self.is_validator() {
             return no_vote(self, VoteDone::Nothing);
@@ -285,7 +297,7 @@ impl DynamicHoneyBadger {
 
     // An own vote for a change that comes as bytes.
     pub fn vote_for(self, change: &[u8]) -> Voted
-        ensures { λ r. ⌜ (votedOf r ≡ voteForBytes base (stateOf self) (now (change .entry))) × VoteRefusedKeeps r self ⌝ }
+        ensures { λ r. ⌜ (votedOf r ≡ voteForBytes base (stateOf self) (now (change .entry))) × NotCastKeeps r self ⌝ }
     {
         let r = change::read_whole_change(change);
         let step = r.step;
@@ -298,7 +310,7 @@ impl DynamicHoneyBadger {
 
     // An own vote to add a node, or to give one another key.
     pub fn vote_to_add(self, id: u32, key: u64) -> Voted
-        ensures { λ r. ⌜ (votedOf r ≡ voteToAdd base (stateOf self) id key) × VoteRefusedKeeps r self ⌝ }
+        ensures { λ r. ⌜ (votedOf r ≡ voteToAdd base (stateOf self) id key) × NotCastKeeps r self ⌝ }
     {
         if key == 0 {
             return no_vote(self, VoteDone::Refused(2));
@@ -317,7 +329,7 @@ impl DynamicHoneyBadger {
 
     // An own vote to remove a node; without such a node it is a vote for the current map.
     pub fn vote_to_remove(self, id: u32) -> Voted
-        ensures { λ r. ⌜ (votedOf r ≡ voteToRemove base (stateOf self) id) × VoteRefusedKeeps r self ⌝ }
+        ensures { λ r. ⌜ (votedOf r ≡ voteToRemove base (stateOf self) id) × NotCastKeeps r self ⌝ }
     {
         let counter = self.vote_counter;
         let map = counter.pub_keys;
@@ -430,7 +442,7 @@ impl DynamicHoneyBadger {
 
     // The stored message at a place, 0 first, in order of arrival.
     pub fn stored_message(self, place: usize) -> StoredMessage
-        ensures { λ r. ⌜ saidStored r ≡ messageAt place (stateOf self .store) ⌝ }
+        ensures { λ r. ⌜ (saidStored r ≡ messageAt place (stateOf self .store)) × NoneStoredEmpty r ⌝ }
     {
         let store = self.store;
         store.at(place)
@@ -438,7 +450,7 @@ impl DynamicHoneyBadger {
 
     // The pending vote at a place, 0 first, of those newer than their voter's committed vote.
     pub fn pending_vote(self, place: usize) -> PendingVote
-        ensures { λ r. ⌜ saidPending r ≡ pendingAt place (pendingVotes (stateOf self .counter)) ⌝ }
+        ensures { λ r. ⌜ (saidPending r ≡ pendingAt place (pendingVotes (stateOf self .counter))) × NonePendingEmpty r ⌝ }
     {
         let counter = self.vote_counter;
         counter.pending_vote(place)
@@ -503,7 +515,7 @@ impl DynamicHoneyBadger {
 
 // The state as given, with no vote.
 fn no_vote(state: DynamicHoneyBadger, outcome: VoteDone) -> Voted
-    ensures { λ r. ⌜ r ≡ record { state = state; outcome = outcome; vote = signedHeld noSigned } ⌝ }
+    ensures { λ r. ⌜ r ≡ notCast state outcome ⌝ }
 {
     Voted {
         state,

@@ -2,8 +2,6 @@
 -- Assumes nothing.
 use mathlib.Core.Path.{refl}
 use Rattle.lists.specs.Lists.{eqList, filter, lookup, insert, hasKey, insertWithin}
-use Rattle.key_gen.specs.KeyGen.{complete, countComplete, enough, ready}
-use Rattle.winner.specs.Winner.{support, winnerAfter, winner}
 use Rattle.pub_key_map.specs.PubKeyMap.{sameNode}
 use Rattle.bincode.specs.Numbers.{bytesOf}
 use Rattle.bincode.specs.Stands.{All}
@@ -12,10 +10,11 @@ use Rattle.honey_badger.specs.EncryptionSchedule.{sameFields, row14, encrypts, 
 use Rattle.change.specs.Change.{sameChange, changeBytes}
 use Rattle.votes.specs.Votes.{voteBytes}
 use Rattle.network_info.specs.NetworkInfo.{keyOf}
+use Rattle.reference.specs.Winner.{votersFor, wonBy, firstPast}
 use Rattle.reference.specs.Step.{refVote, refMessage, refContrib, refContribs, isReady, refDecide, anyStray, refRow6, refRow7, refSteps, refBatch}
 use Rattle.examples.specs.Rows.{Holds, rows}
 
 pub examples : All Holds rows
-unfolding rows maxFaulty filter complete countComplete enough ready winner winnerAfter support sameChange eqList sameNode sameFields bytesOf scheduleBytes changeBytes voteBytes row14 encrypts useOnEpoch lookup insert hasKey insertWithin keyOf refVote refMessage refContrib refContribs isReady refDecide refRow6 anyStray refRow7 refSteps refBatch
+unfolding rows maxFaulty filter votersFor wonBy firstPast sameChange eqList sameNode sameFields bytesOf scheduleBytes changeBytes voteBytes row14 encrypts useOnEpoch lookup insert hasKey insertWithin keyOf refVote refMessage refContrib refContribs isReady refDecide refRow6 anyStray refRow7 refSteps refBatch
 examples =
     (refl, (refl, (refl, (refl, (refl, (refl, (refl, (refl, (refl, (refl, (refl, (refl, (refl, ((refl, refl), (refl, (refl, (refl, tt)))))))))))))))))

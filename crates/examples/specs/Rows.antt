@@ -4,31 +4,28 @@ use mathlib.Core.Path.{_≡_}
 use mathlib.Core.List.{List, [], _∷_}
 use mathlib.Core.Bool.{Bool, true, false}
 use Rattle.lists.specs.Lists.{Found, found, nothing}
-use Rattle.winner.specs.Winner.{winner}
 use Rattle.bincode.specs.Outcome.{Outcome, done, refused}
 use Rattle.bincode.specs.Sizes.{base}
 use Rattle.util.specs.MaxFaulty.{maxFaulty}
 use Rattle.honey_badger.specs.declared.EncryptionSchedule.{EncryptionSchedule}
 use Rattle.honey_badger.specs.declared.EncryptionSchedule.the-variants.{Always, EveryNthEpoch, TickTock}
 use Rattle.honey_badger.specs.EncryptionSchedule.{useOnEpoch}
-use Rattle.change.specs.Change.{ChangeOf, nodeChange, encryptionSchedule, sameChange}
+use Rattle.change.specs.Change.{ChangeOf, nodeChange, encryptionSchedule}
 use Rattle.pub_key_map.specs.declared.Node.{Node}
-use Rattle.key_gen.specs.KeyGen.{ProposalOf, complete, ready}
 use Rattle.votes.specs.Votes.{VoteOf, SignedVoteOf, voteBytes}
 use Rattle.params.specs.declared.SubsetHandlingStrategy.the-variants.{Incremental}
 use Rattle.internal_contrib.specs.InternalContrib.{ContribOf}
-use Rattle.reference.specs.Reference.{RefState, openRef}
-use Rattle.reference.specs.Step.{RefReport, refBatch}
+use Rattle.reference.specs.Reference.{PartRef, RefState, openRef}
+use Rattle.reference.specs.Winner.{firstPast}
+use Rattle.reference.specs.Step.{isReady, RefReport, refBatch}
 
 pub data Row : Type 0 where
   -- f of a number of nodes
   faulty : ℕ → ℕ → Row
-  -- who wins among n nodes, from the choices of the voters by ascending id
+  -- who wins among n nodes, from the choices of the voters 1, 2, .. in their order
   won : ℕ → List ChangeOf → Found ChangeOf → Row
-  -- whether a part is complete, among n nodes, with so many acks
-  completed : ℕ → ℕ → Bool → Row
-  -- whether key generation is ready, among n nodes, with so many complete parts
-  finished : ℕ → ℕ → Bool → Row
+  -- whether key generation is ready among n nodes, where the proposers 0, 1, .. have a part each, with so many acks
+  finished : ℕ → List ℕ → Bool → Row
   -- the epoch that a batch with an inner epoch reports, and the era after it
   moved : RefState → ℕ → List ContribOf → ℕ → ℕ → Row
   -- a vote as bytes
@@ -36,22 +33,24 @@ pub data Row : Type 0 where
   -- whether a schedule encrypts an epoch
   encrypted : EncryptionSchedule → ℕ → Bool → Row
 
--- n nodes, and the indices below n
-abbrev pub nodesUpto : ℕ → List Node
-nodesUpto zero = []
-nodesUpto (suc n) = record { id = n; key = 1 } ∷ nodesUpto n
+-- n nodes from an id on, and n indices from one on
+abbrev pub nodesFrom : ℕ → ℕ → List Node
+nodesFrom i zero = []
+nodesFrom i (suc n) = record { id = i; key = i + 10 } ∷ nodesFrom (i + 1) n
 
-abbrev pub below : ℕ → List ℕ
-below zero = []
-below (suc n) = n ∷ below n
+abbrev pub indicesFrom : ℕ → ℕ → List ℕ
+indicesFrom i zero = []
+indicesFrom i (suc n) = i ∷ indicesFrom (i + 1) n
 
--- a part with so many acks, and so many parts that all n nodes have acknowledged
-abbrev pub partWith : ℕ → ProposalOf
-partWith acks = record { proposer = 0; commit = 0; acks = below acks; good = [] }
+-- parts of different proposers, from one on, each with its own commitment and so many acknowledgers
+abbrev pub partsFrom : ℕ → List ℕ → List PartRef
+partsFrom i [] = []
+partsFrom i (acks ∷ more) = record { proposer = i; commit = i + 100; acks = indicesFrom 0 acks } ∷ partsFrom (i + 1) more
 
-abbrev pub parts : ℕ → ℕ → List ProposalOf
-parts n zero = []
-parts n (suc c) = partWith n ∷ parts n c
+-- the votes of voters from one on, for a change each
+abbrev pub votesFrom : ℕ → List ChangeOf → List SignedVoteOf
+votesFrom i [] = []
+votesFrom i (c ∷ more) = record { vote = record { change = c; era = 0; num = 0 }; voter = i; sig = i + 10 } ∷ votesFrom (i + 1) more
 
 -- the epoch of a report
 abbrev pub epochOf : Outcome RefReport → Outcome ℕ
@@ -75,9 +74,8 @@ twoFor era c = record { id = 3; user = []; messages = []; votes = voteOf era 1 c
 -- what a row claims
 abbrev pub Holds : Row → Type 0
 Holds (faulty n f) = maxFaulty n ≡ f
-Holds (won n choices r) = winner sameChange (maxFaulty n) choices ≡ r
-Holds (completed n acks b) = complete (maxFaulty n) (partWith acks) ≡ b
-Holds (finished n c b) = ready (record { our-id = 0; nodes = nodesUpto n; parts = parts n c }) ≡ b
+Holds (won n choices r) = firstPast (maxFaulty n) (votesFrom 1 choices) ≡ r
+Holds (finished n acks b) = isReady (record { nodes = nodesFrom 1 n; parts = partsFrom 0 acks }) ≡ b
 Holds (moved s inner cs epoch era) = (epochOf (refBatch base s inner cs .answer) ≡ done epoch) × (refBatch base s inner cs .state .era ≡ era)
 Holds (encoded v bytes) = voteBytes v ≡ bytes
 Holds (encrypted x epoch b) = useOnEpoch x epoch ≡ done b
@@ -100,13 +98,14 @@ rows =
     -- n=4, voters 1:X, 2:Y, 3:Y, 4:X: Y wins; 1:X, 2:Y: none
     ∷ won 4 (X ∷ Y ∷ Y ∷ X ∷ []) (found Y)
     ∷ won 4 (X ∷ Y ∷ []) nothing
-    -- n=4: 2 acks incomplete, 3 complete; 2 complete parts not ready, 3 ready; n=7: 4 not ready, 5 ready
-    ∷ completed 4 2 false
-    ∷ completed 4 3 true
-    ∷ finished 4 2 false
-    ∷ finished 4 3 true
-    ∷ finished 7 4 false
-    ∷ finished 7 5 true
+    -- n=4: 2 acks incomplete, 3 complete: beside two complete parts, a third one of 2 acks or of 3
+    ∷ finished 4 (4 ∷ 4 ∷ 2 ∷ []) false
+    ∷ finished 4 (4 ∷ 4 ∷ 3 ∷ []) true
+    -- n=4: 2 complete parts not ready, 3 ready; n=7: 4 not ready, 5 ready
+    ∷ finished 4 (4 ∷ 4 ∷ []) false
+    ∷ finished 4 (4 ∷ 4 ∷ 4 ∷ []) true
+    ∷ finished 7 (7 ∷ 7 ∷ 7 ∷ 7 ∷ []) false
+    ∷ finished 7 (7 ∷ 7 ∷ 7 ∷ 7 ∷ 7 ∷ []) true
     -- era 5, inner 3, new map wins: epoch 8, era 9
     ∷ moved (inEra 5) 3 (twoFor 5 Y) 8 9
     -- the vote for EveryNthEpoch(3), era 5, number 0, as 28 bytes

@@ -1,2 +1,4 @@
 pub mod ScheduleLaws
 pub mod ScheduleCodes
+pub mod CallLaws
+pub mod ScheduleCauses

@@ -1,1 +1,2 @@
 pub mod EncryptionSchedule
+pub mod ScheduleCauses

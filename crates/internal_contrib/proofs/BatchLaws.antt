@@ -61,7 +61,7 @@ place-more at (c ∷ cs) x id = go (eqb (c .id) id) (place-more (at + length (co
         rw e h
 
 -- not both a place and none
-place-clash : {start n : ℕ} → at-place start n ≡ no-place → ⊥
+pub place-clash : {start n : ℕ} → at-place start n ≡ no-place → ⊥
 place-clash p = let z : _≡_ {A = ℕ} 0 1 = cc in omega arith
 
 -- a place that was found: the node has a contribution, and its user bytes stand there

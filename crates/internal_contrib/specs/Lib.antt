@@ -1,2 +1,3 @@
 pub mod InternalContrib
+pub mod ContribCauses
 pub mod Places

@@ -265,13 +265,13 @@ fn walk_batch(s: &[u8], id: u32) -> Walk
     ensures { λ r. ⌜ saidWalk r ≡ walked id (readBatch base (now (s .entry))) ⌝ }
 {
     if Budget::BYTES < s.len() {
-        return Walk::Refused(3);
+        return Walk::Refused(3); // the whole length
     }
     let ReadU64::Value(n, first) = bincode::read_u64(s, 0) else {
         return Walk::Refused(2);
     };
     if Budget::CONTRIBS < n {
-        return Walk::Refused(3);
+        return Walk::Refused(3); // a count over its size
     }
     let mut b = Budget::new();
     let mut messages: u64 = 0;

@@ -1,2 +1,3 @@
 pub mod PlanLaws
 pub mod PlanCodes
+pub mod PlanCauses

@@ -13,10 +13,8 @@ use Rattle.bincode.specs.Stands.{concat}
 use Rattle.bincode.specs.Answer.{stepOf, heldOf}
 use Rattle.pub_key_map.specs.declared.Node.{Node}
 use Rattle.pub_key_map.specs.PubKeyMap.{nodesOf, mapHeld, readMap, mapBytes, MapOk}
-use Rattle.honey_badger.specs.declared.EncryptionSchedule.the-variants.{Always}
 use Rattle.params.specs.declared.Params.{Params}
-use Rattle.params.specs.declared.SubsetHandlingStrategy.the-variants.{Incremental}
-use Rattle.params.specs.Params.{readParams, paramsBytes, ParamsOk}
+use Rattle.params.specs.Params.{noParams, readParams, paramsBytes, ParamsOk}
 use Rattle.change.specs.Change.{ChangeStateOf, none, stateOf, stateHeld, readState, stateBytes, StateOk}
 use Rattle.join_plan.specs.declared.JoinPlan.{JoinPlan}
 use Rattle.join_plan.specs.declared.ReadPlan.{ReadPlan}
@@ -61,14 +59,7 @@ abbrev pub planHeld : PlanOf → JoinPlan
 planHeld p = record { era = p .era; change = stateHeld (p .change); «pub_keys» = mapHeld (p .keys); «pub_key_set» = p .key-set; params = p .params }
 
 abbrev pub noPlan : PlanOf
-noPlan =
-    record {
-      era = 0;
-      change = none;
-      keys = [];
-      key-set = 0;
-      params = record { «max_future_epochs» = 0; «subset_handling_strategy» = Incremental; «encryption_schedule» = Always };
-    }
+noPlan = record { era = 0; change = none; keys = []; key-set = 0; params = noParams }
 
 abbrev pub planAnswer : Read PlanOf → ReadPlan
 planAnswer x = record { step = stepOf x; plan = heldOf planHeld (planHeld noPlan) x }

@@ -1,1 +1,2 @@
 pub mod JoinPlan
+pub mod PlanCauses

@@ -5,14 +5,12 @@ ghost use lib.ListN.{length};
 ghost use Rattle.bincode.specs.Read.{refuse, whole};
 ghost use Rattle.bincode.specs.Numbers.{fixed};
 ghost use Rattle.bincode.specs.Sizes.{base};
-ghost use Rattle.join_plan.specs.JoinPlan.{planOf, readPlan, planAnswer, planBytes, planWritten, planSaid, saidWritten};
+ghost use Rattle.join_plan.specs.JoinPlan.{planOf, planHeld, noPlan, readPlan, planAnswer, planBytes, planWritten, planSaid, saidWritten};
 use bincode::ReadU64;
 use bincode::Step;
 use change::ChangeState;
-use honey_badger::EncryptionSchedule;
 use params::Params;
 use params::ReadParams;
-use params::SubsetHandlingStrategy;
 use pub_key_map::PubKeyMap;
 
 pub struct JoinPlan {
@@ -26,6 +24,19 @@ pub struct JoinPlan {
 impl JoinPlan {
     // The bytes that are lent for a plan: no plan takes more.
     pub const BYTES: usize = 448;
+
+    // What stands where there is no plan.
+    pub fn empty() -> Self
+        ensures { λ r. ⌜ r ≡ planHeld noPlan ⌝ }
+    {
+        JoinPlan {
+            era: 0,
+            change: ChangeState::none(),
+            pub_keys: PubKeyMap::empty(),
+            pub_key_set: 0,
+            params: Params::empty(),
+        }
+    }
 }
 
 pub struct ReadPlan {
@@ -38,17 +49,7 @@ fn refused(n: u8) -> ReadPlan
 {
     ReadPlan {
         step: Step::Refused(n),
-        plan: JoinPlan {
-            era: 0,
-            change: ChangeState::none(),
-            pub_keys: PubKeyMap::empty(),
-            pub_key_set: 0,
-            params: Params {
-                max_future_epochs: 0,
-                subset_handling_strategy: SubsetHandlingStrategy::Incremental,
-                encryption_schedule: EncryptionSchedule::Always,
-            },
-        },
+        plan: JoinPlan::empty(),
     }
 }
 

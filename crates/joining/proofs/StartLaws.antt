@@ -1,7 +1,7 @@
 -- Laws of starting and joining: the rows down to the first that holds.
 -- Assumes nothing.
 use Prim.Native.Nat.{ℕ, suc, _≤_, _<_}
-use mathlib.Core.Path.{_≡_, refl, sym, _∙_}
+use mathlib.Core.Path.{_≡_, refl, sym, ap, _∙_}
 use mathlib.Core.List.{List, [], _∷_}
 use mathlib.Core.Bool.{true, false}
 use native.Mathlib.Omega.{arith}
@@ -13,12 +13,16 @@ use Rattle.bincode.specs.Outcome.{done, refused}
 use Rattle.bincode.specs.Numbers.{fixed}
 use Rattle.bincode.specs.Sizes.{Sizes}
 use Rattle.pub_key_map.specs.declared.Node.{Node}
-use Rattle.pub_key_map.specs.PubKeyMap.{readMap}
+use Rattle.pub_key_map.specs.PubKeyMap.{mapHeld, readMap}
 use Rattle.network_info.specs.NetworkInfo.{isMember}
 use Rattle.params.specs.declared.Params.{Params}
-use Rattle.params.specs.Params.{readParams}
-use Rattle.join_plan.specs.JoinPlan.{PlanOf, readPlan}
-use Rattle.joining.specs.Starting.{isEmpty, emptyProgress, joinRow8, joinRow9, joinRow10, joinPlan, joinChecked, startMap, startChecked}
+use Rattle.params.specs.Params.{noParams, readParams}
+use Rattle.join_plan.specs.JoinPlan.{PlanOf, readPlan, planHeld, noPlan}
+use Rattle.joining.specs.Starting.{isEmpty, emptyProgress, joinRow8, joinRow9, joinRow10, joinPlan, joinChecked, startMap, startChecked, noJoining, JoiningRefusedEmpty, noStarting, StartingRefusedEmpty}
+use Rattle.joining.specs.declared.StartOutcome.{StartOutcome}
+use Rattle.joining.specs.declared.StartOutcome.the-variants as start
+use Rattle.joining.specs.declared.Joining.{Joining}
+use Rattle.joining.specs.declared.Starting.{Starting}
 
 -- empty maps
 module _ (ns : List Node) where
@@ -133,3 +137,14 @@ module _ (z : Sizes) (key : ℕ) (map params : List ℕ) where
     pub start-read : (p : Params) (d : ℕ) → whole (readParams fixed params) params ≡ value p d → startChecked z key map params ≡ startMap key ns p
     unfolding startChecked
     start-read p d r = rw (m, r)
+
+-- what stands beside a refusal: a start that is accepted is not refused
+pub accepted-not-refused : (n : ℕ) → start.Accepted ≡ start.Refused n → ⊥
+accepted-not-refused n e = let z : _≡_ {A = ℕ} 0 1 = cc in omega arith
+
+-- the empty answers are as they should be
+pub joining-empty : (k : ℕ) (r : Joining) → r ≡ noJoining k → JoiningRefusedEmpty r
+joining-empty k r h n e = h ∙ ap (λ (o : StartOutcome). record { outcome = o; plan = planHeld noPlan }) (sym (ap (λ (r : Joining). r .outcome) h) ∙ e)
+
+pub starting-empty : (k : ℕ) (r : Starting) → r ≡ noStarting k → StartingRefusedEmpty r
+starting-empty k r h n e = h ∙ ap (λ (o : StartOutcome). record { outcome = o; «pub_keys» = mapHeld []; params = noParams }) (sym (ap (λ (r : Starting). r .outcome) h) ∙ e)

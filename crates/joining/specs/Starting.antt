@@ -1,5 +1,6 @@
 -- 01, "When the engine says no": what starting and joining are refused for, in order.
 use Prim.Native.Nat.{ℕ}
+use mathlib.Core.Path.{_≡_}
 use mathlib.Core.List.{List, [], _∷_}
 use mathlib.Core.Bool.{Bool, true, false, not, cond, _||_}
 use lib.Dec.{ltb, eqb}
@@ -8,13 +9,13 @@ use Rattle.bincode.specs.Outcome.{Outcome, done, refused}
 use Rattle.bincode.specs.Numbers.{fixed}
 use Rattle.bincode.specs.Sizes.{Sizes}
 use Rattle.pub_key_map.specs.declared.Node.{Node}
-use Rattle.pub_key_map.specs.PubKeyMap.{nodesOf, sameNodes, readMap}
+use Rattle.pub_key_map.specs.PubKeyMap.{nodesOf, mapHeld, sameNodes, readMap}
 use Rattle.network_info.specs.NetworkInfo.{isMember}
 use Rattle.honey_badger.specs.EncryptionSchedule.{sameSchedule}
 use Rattle.params.specs.declared.Params.{Params}
-use Rattle.params.specs.Params.{readParams}
+use Rattle.params.specs.Params.{noParams, readParams}
 use Rattle.change.specs.Change.{nodeChange, encryptionSchedule, ChangeStateOf, none, inProgress, complete}
-use Rattle.join_plan.specs.JoinPlan.{PlanOf, readPlan, planOf}
+use Rattle.join_plan.specs.JoinPlan.{PlanOf, readPlan, planOf, planHeld, noPlan}
 use Rattle.joining.specs.declared.StartOutcome.{StartOutcome}
 use Rattle.joining.specs.declared.StartOutcome.the-variants as start
 use Rattle.joining.specs.declared.Joining.{Joining}
@@ -92,7 +93,7 @@ startChecked z key map params =
     reading (whole (readParams fixed params) params) λ p.
     startMap key ns p
 
--- the answers as code gives them: beside a refusal the value does not count
+-- the answers as code gives them
 module _ {A : Type 0} where
   abbrev pub saidStart : StartOutcome → A → Outcome A
   saidStart start.Accepted a = done a
@@ -103,3 +104,16 @@ joiningOf r = saidStart (r .outcome) (planOf (r .plan))
 
 abbrev pub startingOf : Starting → Outcome StartOf
 startingOf r = saidStart (r .outcome) (record { keys = nodesOf (r .«pub_keys»); params = r .params })
+
+-- beside a refusal stand the empty plan, the empty map and the empty parameters
+abbrev pub noJoining : ℕ → Joining
+noJoining n = record { outcome = start.Refused n; plan = planHeld noPlan }
+
+abbrev pub JoiningRefusedEmpty : Joining → Type 0
+JoiningRefusedEmpty r = (n : ℕ) → r .outcome ≡ start.Refused n → r ≡ noJoining n
+
+abbrev pub noStarting : ℕ → Starting
+noStarting n = record { outcome = start.Refused n; «pub_keys» = mapHeld []; params = noParams }
+
+abbrev pub StartingRefusedEmpty : Starting → Type 0
+StartingRefusedEmpty r = (n : ℕ) → r .outcome ≡ start.Refused n → r ≡ noStarting n

@@ -1,18 +1,15 @@
 // dynamic_honey_badger.rs: what `new` and `new_joining` check before a node starts. The Rust's asserts and errors are refusals here.
 ghost use mathlib.Core.Path.{_≡_};
-ghost use Rattle.bincode.specs.Outcome.{refused};
 ghost use Rattle.bincode.specs.Sizes.{base};
 ghost use Rattle.join_plan.specs.JoinPlan.{planOf};
-ghost use Rattle.joining.specs.Starting.{saidStart, joiningOf, joinChecked, joinPlan, joinRow8, joinRow10, startingOf, startChecked};
+ghost use Rattle.joining.specs.Starting.{saidStart, joiningOf, noJoining, JoiningRefusedEmpty, joinChecked, joinPlan, joinRow8, joinRow10, startingOf, noStarting, StartingRefusedEmpty, startChecked};
 use bincode::Step;
 use change::ChangeKind;
 use change::Progress;
 use due::DueList;
-use honey_badger::EncryptionSchedule;
 use join_plan::JoinPlan;
 use params::Params;
 use params::ReadParams;
-use params::SubsetHandlingStrategy;
 use pub_key_map::PubKeyMap;
 
 pub enum StartOutcome {
@@ -20,13 +17,13 @@ pub enum StartOutcome {
     Refused(u8),
 }
 
-// A plan that a node may start from, or a refusal; then the plan does not count.
+// A plan that a node may start from, or a refusal; the plan beside it is then empty.
 pub struct Joining {
     pub outcome: StartOutcome,
     pub plan: JoinPlan,
 }
 
-// A map and parameters that a node may start from, or a refusal; then they do not count.
+// A map and parameters that a node may start from, or a refusal; those beside it are then empty.
 pub struct Starting {
     pub outcome: StartOutcome,
     pub pub_keys: PubKeyMap,
@@ -98,48 +95,51 @@ fn check_plan(our_id: u32, secret_key: u64, plan: JoinPlan) -> StartOutcome
     StartOutcome::Accepted
 }
 
+fn refused_join(n: u8) -> Joining
+    ensures { λ r. ⌜ r ≡ noJoining n ⌝ }
+{
+    Joining {
+        outcome: StartOutcome::Refused(n),
+        plan: JoinPlan::empty(),
+    }
+}
+
 // Joining: 1 for fewer places lent for due items than 01 says; 2 and 3 of the plan, then of the own key; 8; 9; 10.
 pub fn check_joining(due_places: usize, our_id: u32, secret_key: u64, plan: &[u8]) -> Joining
-    ensures { λ r. ⌜ joiningOf r ≡ joinChecked base «due_places» «our_id» «secret_key» (now (plan .entry)) ⌝ }
+    ensures { λ r. ⌜ (joiningOf r ≡ joinChecked base «due_places» «our_id» «secret_key» (now (plan .entry))) × JoiningRefusedEmpty r ⌝ }
 {
+    if due_places < DueList::LIMIT {
+        return refused_join(1);
+    }
     let r = join_plan::read_plan(plan);
     let step = r.step;
     let read = r.plan;
-    if due_places < DueList::LIMIT {
-        return Joining {
-            outcome: StartOutcome::Refused(1),
-            plan: read,
-        };
-    }
     let Step::Next(_) = step else {
-        return Joining {
-            outcome: StartOutcome::Refused(step.number()),
-            plan: read,
-        };
+        return refused_join(step.number());
     };
-    Joining {
-        outcome: check_plan(our_id, secret_key, read),
-        plan: read,
+    let outcome = check_plan(our_id, secret_key, read);
+    match outcome {
+        StartOutcome::Accepted => Joining {
+            outcome,
+            plan: read,
+        },
+        StartOutcome::Refused(n) => refused_join(n),
     }
 }
 
 fn refused_start(n: u8) -> Starting
-    ensures { λ r. ⌜ startingOf r ≡ refused n ⌝ }
+    ensures { λ r. ⌜ r ≡ noStarting n ⌝ }
 {
     Starting {
         outcome: StartOutcome::Refused(n),
         pub_keys: PubKeyMap::empty(),
-        params: Params {
-            max_future_epochs: 0,
-            subset_handling_strategy: SubsetHandlingStrategy::Incremental,
-            encryption_schedule: EncryptionSchedule::Always,
-        },
+        params: Params::empty(),
     }
 }
 
 // Starting: 2 and 3 of the map, of the parameters, then of the own key; 8.
 pub fn check_starting(secret_key: u64, map: &[u8], params: &[u8]) -> Starting
-    ensures { λ r. ⌜ startingOf r ≡ startChecked base «secret_key» (now (map .entry)) (now (params .entry)) ⌝ }
+    ensures { λ r. ⌜ (startingOf r ≡ startChecked base «secret_key» (now (map .entry)) (now (params .entry))) × StartingRefusedEmpty r ⌝ }
 {
     let m = pub_key_map::read_whole_map(map);
     let step = m.step;

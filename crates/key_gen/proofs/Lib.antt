@@ -1,2 +1,3 @@
 pub mod CountLaws
 pub mod KeyGenLaws
+pub mod PageLaws

@@ -1,2 +1,3 @@
 pub mod MessageLaws
 pub mod MessageCodes
+pub mod MessageCauses

@@ -1,1 +1,2 @@
 pub mod KeyGenMessage
+pub mod MessageCauses

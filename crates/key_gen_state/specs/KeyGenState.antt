@@ -1,14 +1,15 @@
 -- The running key generation with its count of received messages for each sender.
 use Prim.Native.Nat.{ℕ, _+_}
-use mathlib.Core.List.{List}
+use mathlib.Core.List.{List, []}
 use mathlib.Core.Bool.{Bool, false, cond}
 use lib.ListN.{getD, set, replicate}
 use lib.Dec.{ltb}
 use Rattle.lists.specs.Lists.{Found, found, nothing}
-use Rattle.bincode.specs.Sizes.{Sizes}
+use Rattle.bincode.specs.Sizes.{Sizes, base}
 use Rattle.pub_key_map.specs.declared.Node.{Node}
+use Rattle.pub_key_map.specs.PubKeyMap.{mapHeld}
 use Rattle.network_info.specs.NetworkInfo.{nodeIndex}
-use Rattle.key_gen.specs.KeyGen.{KeyGenOf, nodeCount, ready, keyGenOf}
+use Rattle.key_gen.specs.KeyGen.{KeyGenOf, nodeCount, ready, keyGenOf, freshHeld}
 use Rattle.key_gen_state.specs.declared.KeyGenState.{KeyGenState}
 use Rattle.key_gen_state.specs.declared.Counted.{Counted}
 
@@ -67,6 +68,10 @@ runningOf s = record { key-gen = keyGenOf (s .«key_gen»); counts = s .counts .
 
 abbrev pub stateOf : KeyGenState → Found KeyGenStateOf
 stateOf s = cond (s .running) (found (runningOf s)) nothing
+
+-- the struct where there is none
+abbrev pub noKeyGen : KeyGenState
+noKeyGen = record { running = false; «key_gen» = freshHeld 0 (mapHeld []); counts = record { counts = replicate (base .nodes + base .nodes) 0 } }
 
 abbrev pub countedOf : Counted → CountedOf
 countedOf r = record { state = runningOf (r .state); count = r .count }

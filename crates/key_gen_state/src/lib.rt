@@ -2,12 +2,12 @@
 ghost use mathlib.Core.Path.{_≡_};
 ghost use Prim.Native.Nat.{_+_, _≤_};
 ghost use lib.ListN.{replicate};
-ghost use Rattle.lists.specs.Lists.{found, nothing};
+ghost use Rattle.lists.specs.Lists.{found};
 ghost use Rattle.bincode.specs.Sizes.{base};
 ghost use Rattle.pub_key_map.specs.PubKeyMap.{nodesOf};
 ghost use Rattle.key_gen.specs.KeyGen.{keyGenOf};
 ghost use Rattle.network_info.specs.NetworkInfo.{saidIndex};
-ghost use Rattle.key_gen_state.specs.KeyGenState.{stateOf, runningOf, freshState, senderPlace, raised, countedOf, countMessages, readyState};
+ghost use Rattle.key_gen_state.specs.KeyGenState.{stateOf, runningOf, noKeyGen, freshState, senderPlace, raised, countedOf, countMessages, readyState};
 use key_gen::KeyGen;
 use network_info::NodeIndex;
 use pub_key_map::PubKeyMap;
@@ -69,7 +69,7 @@ fn raise(count: u8, n: usize) -> u8
 impl KeyGenState {
     // No key generation.
     pub fn empty() -> Self
-        ensures { λ r. ⌜ stateOf r ≡ nothing ⌝ }
+        ensures { λ r. ⌜ r ≡ noKeyGen ⌝ }
     {
         KeyGenState {
             running: false,

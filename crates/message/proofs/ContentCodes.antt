@@ -17,7 +17,7 @@ use Rattle.key_gen_message.proofs.MessageCodes.{message-codes}
 use Rattle.message.specs.Message.{MessageContent, keyGen, signedVote, readKeyGen, readVote, readMessage, contentBytes, ContentOk}
 
 -- a message's tag, and what stands behind it
-abbrev tagOf : MessageContent → ℕ
+abbrev pub tagOf : MessageContent → ℕ
 tagOf (keyGen era m sig) = 1
 tagOf (signedVote v) = 2
 
@@ -38,11 +38,11 @@ abbrev voteIn : MessageContent → SignedVoteOf
 voteIn (keyGen era m sig) = noSigned
 voteIn (signedVote v) = v
 
-abbrev behind : MessageContent → List ℕ
+abbrev pub behind : MessageContent → List ℕ
 behind (keyGen era m sig) = concat (bytesOf 8 era ∷ messageBytes m ∷ bytesOf 8 sig ∷ [])
 behind (signedVote v) = concat (signedBytes v ∷ [])
 
-tag-below : (x : MessageContent) → tagOf x < 3
+pub tag-below : (x : MessageContent) → tagOf x < 3
 tag-below (keyGen era m sig) = lit< tt
 tag-below (signedVote v) = lit< tt
 
@@ -50,7 +50,7 @@ tag-above : (x : MessageContent) → 0 < tagOf x
 tag-above (keyGen era m sig) = lit< tt
 tag-above (signedVote v) = lit< tt
 
-tag-behind : (x : MessageContent) → bytesOf 4 (tagOf x) ++ behind x ≡ contentBytes x
+pub tag-behind : (x : MessageContent) → bytesOf 4 (tagOf x) ++ behind x ≡ contentBytes x
 unfolding contentBytes
 tag-behind (keyGen era m sig) = refl
 tag-behind (signedVote v) = refl
@@ -65,7 +65,7 @@ is-signed-vote (keyGen era m sig) t = absurd (let y : ⊥ = omega arith in y)
 is-signed-vote (signedVote v) t = refl
 
 module _ (s : List ℕ) (z : Sizes) (nodes-fit : z .nodes < 256 ^ 8) (rows-fit : z .rows < 256 ^ 8) where
-  key-gen-codes : (t : ℕ) → t ≡ 1 → Codes s (readKeyGen z s) behind (λ x. (Unit {0} × (tagOf x ≡ t)) × ContentOk z x)
+  pub key-gen-codes : (t : ℕ) → t ≡ 1 → Codes s (readKeyGen z s) behind (λ x. (Unit {0} × (tagOf x ≡ t)) × ContentOk z x)
   unfolding readKeyGen
   key-gen-codes t q =
       recode (λ x o. sym (ap behind (is-key-gen x (o .0 .1 ∙ q))))

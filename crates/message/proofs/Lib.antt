@@ -1,2 +1,3 @@
 pub mod ContentLaws
 pub mod ContentCodes
+pub mod ContentCauses

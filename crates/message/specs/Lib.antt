@@ -1,1 +1,2 @@
 pub mod Message
+pub mod ContentCauses

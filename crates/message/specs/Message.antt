@@ -8,7 +8,9 @@ use Rattle.bincode.specs.Numbers.{readNum, bytesOf}
 use Rattle.bincode.specs.Sizes.{Sizes}
 use Rattle.bincode.specs.Stands.{concat}
 use Rattle.bincode.specs.Answer.{stepOf, heldOf}
+use Rattle.votes.specs.declared.SignedVote as votes
 use Rattle.votes.specs.Votes.{SignedVoteOf, signedOf, signedHeld, noSigned, readSignedVote, signedBytes, SignedVoteOk}
+use Rattle.key_gen_message.specs.declared.KeyGenMessage.{KeyGenMessage}
 use Rattle.key_gen_message.specs.KeyGenMessage.{KeyGenMessageOf, messageOf, messageHeld, noMessage, readKeyGenMessage, messageBytes, MessageOk}
 use Rattle.message.specs.declared.MessageKind.{MessageKind}
 use Rattle.message.specs.declared.MessageKind.the-variants.{KeyGen, SignedVote}
@@ -28,10 +30,16 @@ contentOfKind SignedVote m = signedVote (signedOf (m .vote))
 abbrev pub contentOf : Message → MessageContent
 contentOf m = contentOfKind (m .kind) m
 
--- the struct that holds a message
+-- the struct that holds a message: the fields of the other kind are empty
+abbrev pub keyGenHeld : ℕ → KeyGenMessage → ℕ → Message
+keyGenHeld era m sig = record { kind = KeyGen; era = era; message = m; sig = sig; vote = signedHeld noSigned }
+
+abbrev pub voteHeld : votes.SignedVote → Message
+voteHeld v = record { kind = SignedVote; era = 0; message = messageHeld noMessage; sig = 0; vote = v }
+
 abbrev pub contentHeld : MessageContent → Message
-contentHeld (keyGen era m sig) = record { kind = KeyGen; era = era; message = messageHeld m; sig = sig; vote = signedHeld noSigned }
-contentHeld (signedVote v) = record { kind = SignedVote; era = 0; message = messageHeld noMessage; sig = 0; vote = signedHeld v }
+contentHeld (keyGen era m sig) = keyGenHeld era (messageHeld m) sig
+contentHeld (signedVote v) = voteHeld (signedHeld v)
 
 unfoldable pub readKeyGen : Sizes → List ℕ → ℕ → Read MessageContent
 readKeyGen z s at =

@@ -7,7 +7,7 @@ ghost use Rattle.bincode.specs.Sizes.{base};
 ghost use Rattle.bincode.specs.Writing.{written, writtenTo};
 ghost use Rattle.votes.specs.Votes.{signedOf};
 ghost use Rattle.key_gen_message.specs.KeyGenMessage.{messageOf};
-ghost use Rattle.message.specs.Message.{keyGen, signedVote, contentOf, readKeyGen, readVote, readMessage, contentAnswer, contentBytes};
+ghost use Rattle.message.specs.Message.{keyGen, signedVote, contentOf, keyGenHeld, voteHeld, readKeyGen, readVote, readMessage, contentAnswer, contentBytes};
 use bincode::ReadU32;
 use bincode::ReadU64;
 use bincode::Step;
@@ -30,7 +30,7 @@ pub struct Message {
 
 impl Message {
     pub fn of_key_gen(era: u64, message: KeyGenMessage, sig: u64) -> Self
-        ensures { λ r. ⌜ contentOf r ≡ keyGen era (messageOf message) sig ⌝ }
+        ensures { λ r. ⌜ r ≡ keyGenHeld era message sig ⌝ }
     {
         Message {
             kind: MessageKind::KeyGen,
@@ -42,7 +42,7 @@ impl Message {
     }
 
     pub fn of_vote(vote: SignedVote) -> Self
-        ensures { λ r. ⌜ contentOf r ≡ signedVote (signedOf vote) ⌝ }
+        ensures { λ r. ⌜ r ≡ voteHeld vote ⌝ }
     {
         Message {
             kind: MessageKind::SignedVote,

@@ -12,6 +12,11 @@ use Rattle.bincode.specs.Sizes.{Sizes}
 use Rattle.bincode.specs.Outcome.{done, refused}
 use Rattle.key_gen_message.specs.KeyGenMessage.{SignedKeyGenMsgOf}
 use Rattle.message_store.specs.MessageStore.{row12, pushed, messageAt}
+use Rattle.message_store.specs.declared.PushOutcome.the-variants as push
+
+-- a message that is stored is not refused
+pub stored-not-refused : (n : ℕ) → push.Stored ≡ push.Refused n → ⊥
+stored-not-refused n e = let z : _≡_ {A = ℕ} 0 1 = cc in omega arith
 
 module _ (z : Sizes) (ms : List SignedKeyGenMsgOf) where
   -- row 12 does not hold where fewer are held than there are places

@@ -1,5 +1,6 @@
 -- 01: the message store, in order of arrival; row 12.
 use Prim.Native.Nat.{ℕ, zero, suc}
+use mathlib.Core.Path.{_≡_}
 use mathlib.Core.List.{List, [], _∷_, _++_, map}
 use mathlib.Core.Bool.{Bool, true, false, not, cond}
 use lib.ListN.{length, take, replicate}
@@ -60,9 +61,20 @@ saidPush (push.Refused n) s = refused n
 abbrev pub pushedOf : Pushed → Outcome (List SignedKeyGenMsgOf)
 pushedOf r = saidPush (r .outcome) (r .store)
 
+-- beside row 12 stands the very store that was given, places that do not count included
+abbrev pub PushRefusedKeeps : Pushed → MessageStore → Type 0
+PushRefusedKeeps r s = (n : ℕ) → r .outcome ≡ push.Refused n → r .store ≡ s
+
 abbrev pub saidFound : Bool → SignedKeyGenMsg → Found SignedKeyGenMsgOf
 saidFound true m = found (signedOf m)
 saidFound false m = nothing
 
 abbrev pub saidStored : StoredMessage → Found SignedKeyGenMsgOf
 saidStored r = saidFound (r .found) (r .message)
+
+-- past the last place stands the empty message
+abbrev pub noneStored : StoredMessage
+noneStored = record { found = false; message = signedHeld noSigned }
+
+abbrev pub NoneStoredEmpty : StoredMessage → Type 0
+NoneStoredEmpty r = r .found ≡ false → r ≡ noneStored

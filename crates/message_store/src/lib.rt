@@ -4,7 +4,7 @@ ghost use Prim.Native.Nat.{_≤_};
 ghost use lib.ListN.{length};
 ghost use Rattle.bincode.specs.Sizes.{base};
 ghost use Rattle.key_gen_message.specs.KeyGenMessage.{signedOf};
-ghost use Rattle.message_store.specs.MessageStore.{storeOf, noStore, pushed, pushedOf, messageAt, saidStored, without, fromEra};
+ghost use Rattle.message_store.specs.MessageStore.{storeOf, noStore, pushed, pushedOf, PushRefusedKeeps, messageAt, saidStored, NoneStoredEmpty, without, fromEra};
 use key_gen_message::SignedKeyGenMsg;
 
 // Places from `count` on do not count.
@@ -18,13 +18,13 @@ pub enum PushOutcome {
     Refused(u8),
 }
 
-// The store after a message came; as given where it is refused.
+// The store after a message came; the very one that was given where it is refused.
 pub struct Pushed {
     pub store: MessageStore,
     pub outcome: PushOutcome,
 }
 
-// The message at a place, if there is one.
+// The message at a place, or that there is none; the message beside it is then empty.
 pub struct StoredMessage {
     pub found: bool,
     pub message: SignedKeyGenMsg,
@@ -32,6 +32,13 @@ pub struct StoredMessage {
 
 impl MessageStore {
     pub const LIMIT: usize = 128;
+
+    // The messages of an array below a count.
+    pub fn new(count: usize, messages: [SignedKeyGenMsg; MessageStore::LIMIT]) -> Self
+        ensures { λ r. ⌜ r ≡ record { count = count; messages = messages } ⌝ }
+    {
+        MessageStore { count, messages }
+    }
 
     pub fn empty() -> Self
         ensures { λ r. ⌜ r ≡ noStore ⌝ }
@@ -56,7 +63,7 @@ impl MessageStore {
 
     // A message behind those held; row 12 where there is no place.
     pub fn push(mut self, m: SignedKeyGenMsg) -> Pushed
-        ensures { λ r. ⌜ pushedOf r ≡ pushed base (storeOf self) (signedOf m) ⌝ }
+        ensures { λ r. ⌜ (pushedOf r ≡ pushed base (storeOf self) (signedOf m)) × PushRefusedKeeps r self ⌝ }
     {
         let held = self.len();
         if held < MessageStore::LIMIT {
@@ -75,7 +82,7 @@ impl MessageStore {
 
     // The message at a place, 0 first, in order of arrival.
     pub fn at(self, place: usize) -> StoredMessage
-        ensures { λ r. ⌜ saidStored r ≡ messageAt place (storeOf self) ⌝ }
+        ensures { λ r. ⌜ (saidStored r ≡ messageAt place (storeOf self)) × NoneStoredEmpty r ⌝ }
     {
         if place < self.len() {
             return StoredMessage {

@@ -1,2 +1,3 @@
 pub mod ParamsLaws
 pub mod ParamsCodes
+pub mod ParamsCauses

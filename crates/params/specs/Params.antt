@@ -6,6 +6,7 @@ use lib.Dec.{eqb}
 use Rattle.bincode.specs.Read.{Read, value, refuse, bind}
 use Rattle.bincode.specs.Numbers.{Edition}
 use Rattle.bincode.specs.Stands.{concat}
+use Rattle.honey_badger.specs.declared.EncryptionSchedule.the-variants.{Always}
 use Rattle.honey_badger.specs.EncryptionSchedule.{readSchedule, scheduleBytes, ScheduleOk}
 use Rattle.params.specs.declared.SubsetHandlingStrategy.{SubsetHandlingStrategy}
 use Rattle.params.specs.declared.SubsetHandlingStrategy.the-variants.{Incremental, AllAtEnd}
@@ -39,6 +40,10 @@ readParams e s at =
 
 unfoldable pub paramsBytes : Edition → Params → List ℕ
 paramsBytes e p = concat (e .bytes 8 (p .«max_future_epochs») ∷ strategyBytes e (p .«subset_handling_strategy») ∷ scheduleBytes e (p .«encryption_schedule») ∷ [])
+
+-- what stands where there are no parameters
+abbrev pub noParams : Params
+noParams = record { «max_future_epochs» = 0; «subset_handling_strategy» = Incremental; «encryption_schedule» = Always }
 
 -- the parameters that some bytes are read as
 pub record ParamsOk (p : Params) : Type 0 where

@@ -5,7 +5,7 @@ ghost use lib.ListN.{length};
 ghost use Rattle.bincode.specs.Read.{numberOf, whole};
 ghost use Rattle.bincode.specs.Numbers.{fixed};
 ghost use Rattle.bincode.specs.Writing.{written, writtenTo};
-ghost use Rattle.params.specs.Params.{readStrategy, saidStrategy, strategyTag, readParams, saidParams, paramsBytes};
+ghost use Rattle.params.specs.Params.{noParams, readStrategy, saidStrategy, strategyTag, readParams, saidParams, paramsBytes};
 use bincode::ReadU32;
 use bincode::ReadU64;
 use honey_badger::EncryptionSchedule;
@@ -32,6 +32,19 @@ pub struct Params {
     pub max_future_epochs: u64,
     pub subset_handling_strategy: SubsetHandlingStrategy,
     pub encryption_schedule: EncryptionSchedule,
+}
+
+impl Params {
+    // What stands where there are no parameters.
+    pub fn empty() -> Self
+        ensures { λ r. ⌜ r ≡ noParams ⌝ }
+    {
+        Params {
+            max_future_epochs: 0,
+            subset_handling_strategy: SubsetHandlingStrategy::Incremental,
+            encryption_schedule: EncryptionSchedule::Always,
+        }
+    }
 }
 
 pub enum ReadStrategy {

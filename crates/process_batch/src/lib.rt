@@ -5,6 +5,7 @@ ghost use lib.ListN.{length};
 ghost use Rattle.bincode.specs.Sizes.{base};
 ghost use Rattle.fault_log.specs.FaultLog.{faultsOf};
 ghost use Rattle.due.specs.Due.{dueOf};
+ghost use Rattle.recipe.specs.Recipe.{NoRecipeEmpty};
 ghost use Rattle.dynamic_honey_badger.specs.State.{stateOf};
 ghost use Rattle.process_output.specs.Process.{processed, processedOf, BatchRefusedKeeps};
 ghost use Rattle.process_batch.specs.Lent.{filled, lentCall, shorter, faultId, kindNumber, dueKind, dueIndex, dueEra, dueNumber, dueProposer, FaultsFilled, DueFilled};
@@ -138,7 +139,8 @@ pub fn process_batch(
     ensures { λ r. ⌜ (processedOf r ≡ processed base (stateOf state) (lentCall inner (now (batch .entry)) (now (verdicts .entry)) (now («fault_ids» .entry)) (now («fault_kinds» .entry)) (now («due_kinds» .entry)) (now («due_indices» .entry)) (now («due_eras» .entry))))
         × BatchRefusedKeeps r state
         × FaultsFilled (processedOf r .answer) (now («fault_ids» .entry)) (now («fault_ids» .exit)) (now («fault_kinds» .entry)) (now («fault_kinds» .exit))
-        × DueFilled (processedOf r .answer) (now («due_kinds» .entry)) (now («due_kinds» .exit)) (now («due_indices» .entry)) (now («due_indices» .exit)) (now («due_eras» .entry)) (now («due_eras» .exit)) ⌝ }
+        × DueFilled (processedOf r .answer) (now («due_kinds» .entry)) (now («due_kinds» .exit)) (now («due_indices» .entry)) (now («due_indices» .exit)) (now («due_eras» .entry)) (now («due_eras» .exit))
+        × NoRecipeEmpty (r .«has_recipe») (r .recipe) ⌝ }
 {
     let fault_places = shorter_of(fault_ids.len(), fault_kinds.len());
     let due_places = shorter_of(

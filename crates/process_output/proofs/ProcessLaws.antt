@@ -22,8 +22,10 @@ use Rattle.dynamic_honey_badger.specs.declared.DynamicHoneyBadger.{DynamicHoney
 use Rattle.dynamic_honey_badger.specs.Asked.{row5, nextEpoch}
 use Rattle.dynamic_honey_badger.specs.State.{StateOf, eraOf, nodesIn, stateOf, validUnder, candidateNodes}
 use Rattle.due.specs.declared.DueList.{DueList}
-use Rattle.due.specs.Due.{dueOf}
-use Rattle.fault_log.specs.FaultLog.{faultsOf}
+use Rattle.due.specs.Due.{dueOf, noDue}
+use Rattle.fault_log.specs.FaultLog.{faultsOf, noFaults}
+use Rattle.batch.specs.Batch.{noBatch}
+use Rattle.recipe.specs.Recipe.{emptyRecipe, NoRecipeEmpty}
 use Rattle.change.specs.Change.{stateOf as progressOf}
 use Rattle.commit.specs.declared.Work.{Work}
 use Rattle.commit.specs.Steps.{WorkOf, oweTo, begun, committedContrib, committed, workOf}
@@ -33,7 +35,7 @@ use Rattle.process_output.specs.declared.BatchOutcome.{BatchOutcome}
 use Rattle.process_output.specs.declared.BatchOutcome.the-variants as outcome
 use Rattle.process_output.specs.declared.Processed.{Processed}
 use Rattle.process_output.specs.Refusals.{some, noVerdict, isOutside, isStray, batchRow1, batchRow4, batchRow6, batchRow7}
-use Rattle.process_output.specs.Process.{BatchCall, denied, reported, finished, processedContribs, processedRead, processed, processedOf, reportOf, saidBatch}
+use Rattle.process_output.specs.Process.{BatchCall, denied, reported, finished, processedContribs, processedRead, processed, processedOf, refusedWith, BatchRefusedKeeps}
 
 -- a key message, test by test
 module _ (era : ℕ) (ns : List Node) (candidate : Found (List Node)) (m : SignedKeyGenMsgOf) where
@@ -102,8 +104,16 @@ module _ (s : StateOf) (inner : ℕ) where
       omega (arith, h, p .1)
 
 -- a refusal as code gives it
-pub denied-as : (r : Processed) (s : DynamicHoneyBadger) (n : ℕ) → r .state ≡ s → r .outcome ≡ outcome.Refused n → processedOf r ≡ denied (stateOf s) n
-denied-as r s n e q = λ j. record { state = stateOf (e j); answer = saidBatch (q j) (reportOf r) }
+module _ (r : Processed) (s : DynamicHoneyBadger) (n : ℕ) (h : r ≡ refusedWith s n) where
+  pub denied-as : processedOf r ≡ denied (stateOf s) n
+  denied-as = ap processedOf h
+
+  -- nothing stands beside it
+  pub refused-bare : BatchRefusedKeeps r s × NoRecipeEmpty (r .«has_recipe») (r .recipe)
+  refused-bare = (
+    λ k e. h ∙ ap (λ (o : BatchOutcome). record { state = s; outcome = o; batch = noBatch; faults = noFaults; due = noDue; «has_recipe» = false; recipe = emptyRecipe }) (sym (ap (λ (r : Processed). r .outcome) h) ∙ e),
+    λ e. ap (λ (r : Processed). r .recipe) h,
+  )
 
 -- a report is no refusal
 pub never-refused : (n : ℕ) → _≡_ {A = BatchOutcome} outcome.Reported (outcome.Refused n) → ⊥

@@ -14,15 +14,14 @@ ghost use Rattle.key_gen_state.specs.KeyGenState as running;
 ghost use Rattle.internal_contrib.specs.InternalContrib.{ContribOf, readBatch};
 ghost use Rattle.dynamic_honey_badger.specs.State.{stateOf, candidateNodes};
 ghost use Rattle.process_output.specs.Refusals.{some, noVerdict, isStray, batchRow6};
-ghost use Rattle.process_output.specs.Process.{processed, processedContribs, finished, denied, processedOf, BatchRefusedKeeps};
-ghost use Rattle.process_output.specs.declared.BatchOutcome.the-variants.{Refused};
+ghost use Rattle.process_output.specs.Process.{processed, processedContribs, finished, denied, processedOf, refusedWith, BatchRefusedKeeps};
 ghost use Rattle.internal_contrib.specs.Places.{messageCount};
+ghost use Rattle.recipe.specs.Recipe.{NoRecipeEmpty};
 ghost use Rattle.commit.specs.Steps.{oweTo, workOf};
 ghost use Rattle.decision.specs.Decision.{emptyWins};
 use batch::Batch;
 use bincode::ReadU64;
 use bincode::Step;
-use change::ChangeState;
 use commit::Work;
 use due::DueItem;
 use due::DueKind;
@@ -43,7 +42,7 @@ pub enum BatchOutcome {
     Refused(u8),
 }
 
-// The state after a batch, and the report with what stands beside it; those do not count where the batch was refused.
+// The state after a batch, and the report with what stands beside it; where the batch was refused, the state given and all else empty.
 pub struct Processed {
     pub state: DynamicHoneyBadger,
     pub outcome: BatchOutcome,
@@ -145,23 +144,14 @@ fn has_stray(s: &[u8], state: DynamicHoneyBadger) -> bool
     false
 }
 
-// The state as given, with an empty report.
+// The state as given, with the empty report and nothing beside it.
 fn refused(state: DynamicHoneyBadger, n: u8) -> Processed
-    ensures { λ r. ⌜ (r .state ≡ state) × (r .outcome ≡ Refused n) ⌝ }
+    ensures { λ r. ⌜ r ≡ refusedWith state n ⌝ }
 {
-    let counter = state.vote_counter;
-    let pub_keys = counter.pub_keys;
-    let params = state.params;
     Processed {
         state,
         outcome: BatchOutcome::Refused(n),
-        batch: Batch {
-            epoch: 0,
-            era: 0,
-            change: ChangeState::none(),
-            pub_keys,
-            params,
-        },
+        batch: Batch::empty(),
         faults: FaultLog::empty(),
         due: DueList::empty(),
         has_recipe: false,
@@ -185,7 +175,7 @@ fn owe_part(due: DueList, part_due: bool, era: u64) -> DueList
 // Steps 6 to 8 and the report, with the batch's epoch; row 7.
 fn finish(state: DynamicHoneyBadger, w: Work, epoch: u64) -> Processed
     requires { ⌜ epoch + 1 < 2 ^ 64 ⌝ }
-    ensures { λ r. ⌜ ((verdicts : List ℕ) → processedOf r ≡ cond (emptyWins (workOf verdicts w .state)) (denied (stateOf state) 7) (finished base (stateOf state) epoch (workOf verdicts w))) × BatchRefusedKeeps r state ⌝ }
+    ensures { λ r. ⌜ ((verdicts : List ℕ) → processedOf r ≡ cond (emptyWins (workOf verdicts w .state)) (denied (stateOf state) 7) (finished base (stateOf state) epoch (workOf verdicts w))) × BatchRefusedKeeps r state × NoRecipeEmpty (r .«has_recipe») (r .recipe) ⌝ }
 {
     let counter = state.vote_counter;
     let done = w.state();
@@ -228,7 +218,7 @@ fn process(
     verdicts: &[u8],
     messages: u64,
 ) -> Processed
-    ensures { λ r. ⌜ ((cs : List ContribOf) (c faults due : ℕ) → readBatch base (now (batch .entry)) ≡ value cs c → messages ≡ messageCount cs → processedOf r ≡ processedContribs base (stateOf state) (record { inner = inner; bytes = now (batch .entry); verdicts = now (verdicts .entry); fault-places = faults; due-places = due }) cs) × BatchRefusedKeeps r state ⌝ }
+    ensures { λ r. ⌜ ((cs : List ContribOf) (c faults due : ℕ) → readBatch base (now (batch .entry)) ≡ value cs c → messages ≡ messageCount cs → processedOf r ≡ processedContribs base (stateOf state) (record { inner = inner; bytes = now (batch .entry); verdicts = now (verdicts .entry); fault-places = faults; due-places = due }) cs) × BatchRefusedKeeps r state × NoRecipeEmpty (r .«has_recipe») (r .recipe) ⌝ }
 {
     if verdicts.len() as u64 != messages {
         return refused(state, 4);
@@ -256,7 +246,7 @@ pub fn process_output(
     fault_places: usize,
     due_places: usize,
 ) -> Processed
-    ensures { λ r. ⌜ (processedOf r ≡ processed base (stateOf state) (record { inner = inner; bytes = now (batch .entry); verdicts = now (verdicts .entry); fault-places = «fault_places»; due-places = «due_places» })) × BatchRefusedKeeps r state ⌝ }
+    ensures { λ r. ⌜ (processedOf r ≡ processed base (stateOf state) (record { inner = inner; bytes = now (batch .entry); verdicts = now (verdicts .entry); fault-places = «fault_places»; due-places = «due_places» })) × BatchRefusedKeeps r state × NoRecipeEmpty (r .«has_recipe») (r .recipe) ⌝ }
 {
     if fault_places < FaultLog::LIMIT {
         return refused(state, 1);

@@ -1,2 +1,3 @@
 pub mod MapLaws
 pub mod MapCodes
+pub mod MapCauses

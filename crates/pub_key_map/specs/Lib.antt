@@ -1,1 +1,2 @@
 pub mod PubKeyMap
+pub mod MapCauses

@@ -2,7 +2,7 @@
 use Prim.Native.Nat.{ℕ, _+_, _^_, _≤_, _<_}
 use mathlib.Core.Path.{_≡_}
 use mathlib.Core.List.{List, [], _∷_, _++_}
-use mathlib.Core.Bool.{Bool, cond, _&&_, _||_}
+use mathlib.Core.Bool.{Bool, cond, _&&_}
 use lib.ListN.{length, take}
 use lib.Dec.{ltb, eqb}
 use Rattle.lists.specs.Lists.{padded, eqList}
@@ -41,7 +41,9 @@ unfoldable pub readNode : Edition → List ℕ → ℕ → ℕ → Read Node
 readNode e s low at =
     bind (e .read 4 s at) λ id c.
     bind (e .read 8 s c) λ key d.
-    cond (ltb id low || eqb key 0) (refuse 2) (value (record { id = id; key = key }) d)
+    cond (ltb id low) (refuse 2)
+    (cond (eqb key 0) (refuse 2)
+    (value (record { id = id; key = key }) d))
 
 -- the least id that may follow
 abbrev pub following : ℕ → Node → ℕ

@@ -130,10 +130,10 @@ fn read_node(s: &[u8], at: usize, low: u64) -> ReadNode
         return ReadNode::Refused(2);
     };
     if (id as u64) < low {
-        return ReadNode::Refused(2);
+        return ReadNode::Refused(2); // ids not strictly ascending
     }
     if key == 0 {
-        return ReadNode::Refused(2);
+        return ReadNode::Refused(2); // key 0
     }
     ReadNode::Value(Node { id, key }, d)
 }

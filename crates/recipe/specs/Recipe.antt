@@ -1,6 +1,7 @@
 -- 01: `generate` becomes a recipe: complete proposers ascending and, for each, the first t+1 acknowledgers with good values, by ascending
 -- index; an observer's names proposers only; if fewer exist, the recipe says that the share is missing.
 use Prim.Native.Nat.{ℕ, _+_}
+use mathlib.Core.Path.{_≡_}
 use mathlib.Core.List.{List, [], _∷_, map}
 use mathlib.Core.Bool.{Bool, false, cond, _||_}
 use lib.ListN.{length, take, replicate}
@@ -47,6 +48,10 @@ noShare = record { complete = false; used = replicate (base .nodes) false }
 
 abbrev pub emptyRecipe : Recipe
 emptyRecipe = record { kind = kind.Observer; shares = replicate (base .nodes) noShare }
+
+-- where there is no recipe, the empty one stands there
+abbrev pub NoRecipeEmpty : Bool → Recipe → Type 0
+NoRecipeEmpty has r = has ≡ false → r ≡ emptyRecipe
 
 abbrev pub kindOf : Bool → Bool → RecipeKind
 kindOf member short = cond member (cond short kind.Missing kind.Share) kind.Observer

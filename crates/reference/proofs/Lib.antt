@@ -1,1 +1,9 @@
-pub mod PageLaws
+pub mod WinnerLaws
+pub mod VoteLaws
+pub mod MessageLaws
+pub mod PartLaws
+pub mod OrderLaws
+pub mod ReadyLaws
+pub mod StrayLaws
+pub mod BatchLaws
+pub mod ReportLaws

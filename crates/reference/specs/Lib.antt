@@ -1,2 +1,4 @@
 pub mod Reference
+pub mod Winner
+pub mod Terms
 pub mod Step

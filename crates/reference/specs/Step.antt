@@ -1,6 +1,6 @@
 -- The reference state's step: 01's steps 1 to 8 with every verdict 0, without pending votes, message store, recipe and due list.
 use Prim.Native.Nat.{ℕ, _+_, _*_}
-use mathlib.Core.List.{List, [], _∷_, _++_, map}
+use mathlib.Core.List.{List, [], _∷_, _++_}
 use mathlib.Core.Bool.{Bool, true, false, not, cond, _&&_, _||_}
 use lib.ListN.{length}
 use lib.Dec.{ltb, leb, eqb}
@@ -15,9 +15,8 @@ use Rattle.pub_key_map.specs.PubKeyMap.{sameNodes}
 use Rattle.network_info.specs.NetworkInfo.{nodeIndex, isMember, keyOf}
 use Rattle.honey_badger.specs.declared.EncryptionSchedule.{EncryptionSchedule}
 use Rattle.params.specs.declared.Params.{Params}
-use Rattle.change.specs.Change.{ChangeOf, nodeChange, encryptionSchedule, ChangeStateOf, none, inProgress, complete, sameChange}
+use Rattle.change.specs.Change.{ChangeOf, nodeChange, encryptionSchedule, ChangeStateOf, none, inProgress, complete}
 use Rattle.votes.specs.Votes.{SignedVoteOf}
-use Rattle.winner.specs.Winner.{winner}
 use Rattle.sync_key_gen.specs.SyncKeyGen.{PartOf}
 use Rattle.key_gen_message.specs.KeyGenMessage.{KeyGenMessageOf, part, ack, SignedKeyGenMsgOf}
 use Rattle.internal_contrib.specs.InternalContrib.{ContribOf, readBatch}
@@ -28,6 +27,7 @@ use Rattle.fault_log.specs.declared.PartFault.the-variants.{RowCount, MultipleP
 use Rattle.fault_log.specs.declared.AckFault.the-variants.{ValueCount, MissingPart}
 use Rattle.fault_log.specs.declared.Fault.{Fault}
 use Rattle.reference.specs.Reference.{PartRef, CandidateRef, RefState}
+use Rattle.reference.specs.Winner.{firstPast}
 
 -- a batch in the making: the state so far, and the faults in order of arising
 pub record RefWork : Type 0 where
@@ -186,12 +186,9 @@ refElected era s (found (encryptionSchedule x)) = decidedRef (newEraRef era (s .
 -- Step 8. Otherwise report `None`.
 refElected era s nothing = decidedRef s none
 
--- a winner has more than f voters of the current map; voters are taken in ascending order
-abbrev pub choiceOf : SignedVoteOf → ChangeOf
-choiceOf v = v .vote .change
-
+-- a winner has more than f voters, f of the current map
 abbrev pub refWinner : RefState → Found ChangeOf
-refWinner s = winner sameChange (maxFaulty (length (s .nodes))) (map choiceOf (s .votes))
+refWinner s = firstPast (maxFaulty (length (s .nodes))) (s .votes)
 
 unfoldable pub refDecide : ℕ → RefState → RefDecided
 refDecide era s = cond (refReady (s .candidate)) (refCompleted era s (s .candidate)) (refElected era s (refWinner s))

@@ -1,3 +1,9 @@
 pub mod FirstRow
 pub mod Reading
+pub mod Rows
 pub mod Refused
+pub mod Kept
+pub mod Asked
+pub mod DueItemCauses
+pub mod CauseRows
+pub mod EntryCauses

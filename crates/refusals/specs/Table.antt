@@ -2,7 +2,7 @@
 -- and of the state before it.
 use Prim.Native.Nat.{ℕ, _+_}
 use mathlib.Core.List.{List, [], _∷_}
-use mathlib.Core.Bool.{Bool, false, not, cond, _&&_}
+use mathlib.Core.Bool.{Bool, true, false, not, cond, _&&_}
 use lib.Dec.{ltb, eqb}
 use Rattle.lists.specs.Lists.{Found, found, nothing, mapFound, lookup}
 use Rattle.bincode.specs.Read.{Read, value, refuse, whole}
@@ -10,10 +10,13 @@ use Rattle.bincode.specs.Outcome.{Outcome, done, refused}
 use Rattle.bincode.specs.Numbers.{fixed}
 use Rattle.bincode.specs.Sizes.{Sizes}
 use Rattle.pub_key_map.specs.PubKeyMap.{readMap}
+use Rattle.honey_badger.specs.declared.EncryptionSchedule.{EncryptionSchedule}
+use Rattle.honey_badger.specs.EncryptionSchedule.{row14}
 use Rattle.params.specs.Params.{readParams}
 use Rattle.change.specs.Change.{readChange}
 use Rattle.signed_votes.specs.SignedVotes.{voterOf, numOf}
-use Rattle.join_plan.specs.JoinPlan.{readPlan}
+use Rattle.join_plan.specs.JoinPlan.{row1, readPlan}
+use Rattle.batch.specs.Batch.{BatchOf, changed, noNext}
 use Rattle.joining.specs.Starting.{isEmpty, keyRow2, joinRow1, joinRow8, joinRow9, joinRow10}
 use Rattle.message.specs.Message.{MessageContent, keyGen, signedVote, readMessage}
 use Rattle.message_store.specs.MessageStore.{row12}
@@ -151,3 +154,25 @@ batchRows z s b =
     ∷ row 6 (ofRead (batchRow6 s) (readBatch z (b .bytes)))
     ∷ row 7 (ofRead (batchRow7 z s (b .verdicts)) (readBatch z (b .bytes)))
     ∷ []
+
+-- `join_plan`: 1, also where nothing changed; then 5, where there is a plan and no epoch follows the report's
+unfoldable pub planRows : Sizes → List ℕ → BatchOf → List Row
+planRows z buffer b = row 1 (row1 z buffer) ∷ row 5 (changed (b .change) && noNext b) ∷ []
+
+-- `next_epoch`: 5
+unfoldable pub nextRows : StateOf → ℕ → List Row
+nextRows s inner = row 5 (row5 (eraOf s + inner)) ∷ []
+
+-- the schedule call: 14
+unfoldable pub scheduleRows : EncryptionSchedule → List Row
+scheduleRows x = row 14 (row14 x) ∷ []
+
+-- the companion of the look-up: 2 and 3 of the whole batch
+unfoldable pub lookupRows : Sizes → List ℕ → List Row
+lookupRows z bytes = row 2 (readsTo 2 (readBatch z bytes)) ∷ row 3 (readsTo 3 (readBatch z bytes)) ∷ []
+
+-- the companion says no, or refuses
+abbrev pub SaysNo : Outcome Bool → Type 0
+SaysNo (done true) = ⊥
+SaysNo (done false) = Unit {0}
+SaysNo (refused n) = Unit {0}

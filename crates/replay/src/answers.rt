@@ -10,8 +10,6 @@ use change::ChangeState;
 use due::DueItem;
 use due::DueKind;
 use due::DueList;
-use fault_log::FaultKind;
-use fault_log::FaultLog;
 use key_gen::KeyGen;
 use key_gen::Proposal;
 use params::Params;
@@ -23,8 +21,8 @@ use signed_votes::SignedVotes;
 use votes::SignedVote;
 
 // The name of a kind of fault, by the kind's number.
-fn put_kind(out: &mut [u8], at: usize, k: FaultKind) -> usize {
-    let n = k.number() as u64;
+fn put_kind(out: &mut [u8], at: usize, number: u8) -> usize {
+    let n = number as u64;
     if n < 9 {
         let names =
             b"InvalidVoteSignature InvalidCommittedVote UnexpectedDhbMessageEra InvalidKeyGenMessageSignature \
@@ -42,28 +40,10 @@ fn put_kind(out: &mut [u8], at: usize, k: FaultKind) -> usize {
 }
 
 // A fault as `ID:KIND`.
-pub(crate) fn put_fault(out: &mut [u8], at: usize, id: u32, kind: FaultKind) -> usize {
+pub(crate) fn put_fault(out: &mut [u8], at: usize, id: u32, kind: u8) -> usize {
     let a = put_number(out, at, id as u64);
     let b = put(out, a, b":");
     put_kind(out, b, kind)
-}
-
-// Faults in order; `-` for none.
-pub(crate) fn put_faults(out: &mut [u8], at: usize, log: FaultLog) -> usize {
-    let n = log.len();
-    if n == 0 {
-        return put(out, at, b"-");
-    }
-    let mut m = at;
-    let mut i: usize = 0;
-    while i < n {
-        let f = log.faults[i];
-        let kind = f.kind;
-        m = put_comma(out, m, i);
-        m = put_fault(out, m, f.node_id, kind);
-        i += 1;
-    }
-    m
 }
 
 fn put_due_kind(out: &mut [u8], at: usize, k: DueKind) -> usize {
@@ -178,10 +158,16 @@ pub(crate) fn put_map(out: &mut [u8], at: usize, word: &[u8], map: PubKeyMap) ->
     put_first(out, at, word, &buf, n)
 }
 
-pub(crate) fn put_params(out: &mut [u8], at: usize, word: &[u8], p: Params) -> usize {
+fn put_params(out: &mut [u8], at: usize, word: &[u8], p: Params) -> usize {
     let mut buf = [0u8; 64];
     let n = params::write_params(&mut buf, 0, p);
     put_first(out, at, word, &buf, n)
+}
+
+// A map and params, each behind a space.
+pub(crate) fn put_keys(out: &mut [u8], at: usize, map: PubKeyMap, params: Params) -> usize {
+    let a = put_map(out, at, b" ", map);
+    put_params(out, a, b" ", params)
 }
 
 fn put_change(out: &mut [u8], at: usize, word: &[u8], c: Change) -> usize {

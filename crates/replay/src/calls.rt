@@ -2,11 +2,6 @@
 // each step of a function that makes one, so those that make a replica or a host are short.
 use crate::answers::put_due;
 use crate::answers::put_fault;
-use crate::answers::put_faults;
-use crate::answers::put_map;
-use crate::answers::put_params;
-use crate::answers::put_recipe;
-use crate::answers::put_state;
 use crate::fields::first as first_bytes;
 use crate::parse::Arrival;
 use crate::parse::Call;
@@ -16,8 +11,9 @@ use crate::parse::Start;
 use crate::parse::parse;
 use crate::queries::ask;
 use crate::queries::look_up;
+use crate::text::bad_line;
+use crate::text::no_engine;
 use crate::text::put;
-use crate::text::put_named;
 use crate::text::refused;
 use crate::text::say;
 use crate::text::say_first;
@@ -31,42 +27,30 @@ use dynamic_honey_badger::Handling;
 use dynamic_honey_badger::VoteDone;
 use dynamic_honey_badger::Voted;
 use fault_log::FaultKind;
-use fault_log::FaultLog;
 use joining::StartOutcome;
-use libc::STDOUT_FILENO;
 use message::Message;
-use params::Params;
 use process_output::BatchOutcome;
 use process_output::Processed;
-use pub_key_map::PubKeyMap;
-use recipe::Recipe;
 use votes::SignedVote;
 
-// A replica once one has started, and the last report once there is one.
+// A replica once one has started, the last report once there is one, and how many bytes the last answer has.
 pub struct Host {
     pub started: bool,
     pub replica: DynamicHoneyBadger,
     pub reported: bool,
     pub report: Batch,
-}
-
-pub(crate) fn bad_line() {
-    io::write_all(STDOUT_FILENO, b"bad line\n");
-}
-
-pub(crate) fn no_engine() {
-    io::write_all(STDOUT_FILENO, b"no engine\n");
+    pub said: usize,
 }
 
 // The bytes of the message that broadcasts an own vote.
-fn say_cast(out: &mut [u8], vote: SignedVote) {
+fn say_cast(out: &mut [u8], vote: SignedVote) -> usize {
     let mut buf = [0u8; 512];
     let n = message::write_message(&mut buf, 0, Message::of_vote(vote));
-    say_first(out, b"vote ", &buf, n);
+    say_first(out, b"vote ", &buf, n)
 }
 
 // What an own vote answers.
-fn say_vote(out: &mut [u8], r: Voted) {
+fn say_vote(out: &mut [u8], r: Voted) -> usize {
     let outcome = r.outcome;
     let vote = r.vote;
     match outcome {
@@ -77,14 +61,14 @@ fn say_vote(out: &mut [u8], r: Voted) {
 }
 
 // A fault of a message's sender.
-fn say_fault(out: &mut [u8], sender: u32, kind: FaultKind) {
+fn say_fault(out: &mut [u8], sender: u32, kind: FaultKind) -> usize {
     let a = put(out, 0, b"fault ");
-    let b = put_fault(out, a, sender, kind);
-    say(out, b);
+    let b = put_fault(out, a, sender, kind.number());
+    say(out, b)
 }
 
 // What a message answers.
-fn say_handling(out: &mut [u8], sender: u32, outcome: Handling) {
+fn say_handling(out: &mut [u8], sender: u32, outcome: Handling) -> usize {
     match outcome {
         Handling::Quiet => say_word(out, b"handled"),
         Handling::Faulty(k) => say_fault(out, sender, k),
@@ -92,94 +76,37 @@ fn say_handling(out: &mut [u8], sender: u32, outcome: Handling) {
     }
 }
 
-// A map and params, each behind a space.
-pub(crate) fn put_keys(out: &mut [u8], at: usize, map: PubKeyMap, params: Params) -> usize {
-    let a = put_map(out, at, b" ", map);
-    put_params(out, a, b" ", params)
-}
-
-// A report: its epoch, era, change, map and params.
-fn put_report(out: &mut [u8], report: Batch) -> usize {
-    let change = report.change;
-    let map = report.pub_keys;
-    let params = report.params;
-    let a = put_named(out, 0, b"batch ", report.epoch);
-    let b = put_named(out, a, b" ", report.era);
-    let c = put_state(out, b, b" ", change);
-    put_keys(out, c, map, params)
-}
-
-// What stands beside a report: faults and due items.
-fn put_lists(out: &mut [u8], at: usize, faults: FaultLog, due: DueList) -> usize {
-    let a = put(out, at, b" faults ");
-    let b = put_faults(out, a, faults);
-    let c = put(out, b, b" due ");
-    put_due(out, c, due)
-}
-
-// The recipe, where there is one.
-fn put_made(out: &mut [u8], at: usize, made: bool, recipe: Recipe) -> usize {
-    let a = put(out, at, b" recipe ");
-    if made {
-        return put_recipe(out, a, recipe);
-    }
-    put(out, a, b"-")
-}
-
-// What a batch that is not refused answers: the report, and beside it faults, due items and the recipe.
-fn say_batch(out: &mut [u8], r: Processed) {
-    let report = r.batch;
-    let faults = r.faults;
-    let due = r.due;
-    let recipe = r.recipe;
-    let a = put_report(out, report);
-    let b = put_lists(out, a, faults, due);
-    let c = put_made(out, b, r.has_recipe, recipe);
-    say(out, c);
-}
-
-// Whether a batch was reported; says the answer.
-fn say_processed(out: &mut [u8], r: Processed) -> bool {
-    let outcome = r.outcome;
+// What a start answers.
+fn say_start(out: &mut [u8], outcome: StartOutcome) -> usize {
     match outcome {
-        BatchOutcome::Reported => {
-            say_batch(out, r);
-            true
-        }
-        BatchOutcome::Refused(k) => {
-            refused(out, k);
-            false
-        }
-    }
-}
-
-// Whether a replica started; says the answer.
-fn say_start(out: &mut [u8], outcome: StartOutcome) -> bool {
-    match outcome {
-        StartOutcome::Accepted => {
-            say_word(out, b"started");
-            true
-        }
-        StartOutcome::Refused(k) => {
-            refused(out, k);
-            false
-        }
+        StartOutcome::Accepted => say_word(out, b"started"),
+        StartOutcome::Refused(k) => refused(out, k),
     }
 }
 
 // The same of one that joins, with its due items.
-fn say_join(out: &mut [u8], outcome: StartOutcome, due: DueList) -> bool {
+fn say_join(out: &mut [u8], outcome: StartOutcome, due: DueList) -> usize {
     match outcome {
         StartOutcome::Accepted => {
             let a = put(out, 0, b"started due ");
             let b = put_due(out, a, due);
-            say(out, b);
-            true
+            say(out, b)
         }
-        StartOutcome::Refused(k) => {
-            refused(out, k);
-            false
-        }
+        StartOutcome::Refused(k) => refused(out, k),
+    }
+}
+
+fn accepted(outcome: StartOutcome) -> bool {
+    match outcome {
+        StartOutcome::Accepted => true,
+        StartOutcome::Refused(_) => false,
+    }
+}
+
+fn reported(outcome: BatchOutcome) -> bool {
+    match outcome {
+        BatchOutcome::Reported => true,
+        BatchOutcome::Refused(_) => false,
     }
 }
 
@@ -230,49 +157,59 @@ impl Host {
             replica,
             reported: false,
             report: no_report(replica),
+            said: 0,
         }
     }
 
     // The host of a replica that has started, with the last report, if it is one.
-    fn of(replica: DynamicHoneyBadger, reported: bool, report: Batch) -> Self {
+    fn of(replica: DynamicHoneyBadger, reported: bool, report: Batch, said: usize) -> Self {
         Host {
             started: true,
             replica,
             reported,
             report,
+            said,
         }
     }
 
-    fn with(self, replica: DynamicHoneyBadger) -> Self {
+    // The same after an answer.
+    fn saying(mut self, said: usize) -> Self {
+        self.said = said;
+        self
+    }
+
+    fn with(self, replica: DynamicHoneyBadger, said: usize) -> Self {
         let report = self.report;
-        Host::of(replica, self.reported, report)
+        Host::of(replica, self.reported, report, said)
     }
 
     // A replica that has started, with no report yet.
-    fn begin(self, replica: DynamicHoneyBadger) -> Self {
+    fn begin(self, replica: DynamicHoneyBadger, said: usize) -> Self {
         let report = self.report;
-        Host::of(replica, false, report)
+        Host::of(replica, false, report, said)
     }
 
     fn start(self, id: u32, key: u64, era: u64, map: &[u8], params: &[u8], out: &mut [u8]) -> Self {
         let r = DynamicHoneyBadger::new(id, key, era, map, params);
         let outcome = r.outcome;
-        if say_start(out, outcome) {
+        let said = say_start(out, outcome);
+        if accepted(outcome) {
             let replica = r.state;
-            return self.begin(replica);
+            return self.begin(replica, said);
         }
-        self
+        self.saying(said)
     }
 
     fn join(self, id: u32, key: u64, plan: &[u8], places: usize, out: &mut [u8]) -> Self {
         let r = DynamicHoneyBadger::new_joining(id, key, plan, places);
         let outcome = r.outcome;
         let due = r.due;
-        if say_join(out, outcome, due) {
+        let said = say_join(out, outcome, due);
+        if accepted(outcome) {
             let replica = r.state;
-            return self.begin(replica);
+            return self.begin(replica, said);
         }
-        self
+        self.saying(said)
     }
 
     fn first_call(self, s: Start, first: &[u8], second: &[u8], out: &mut [u8]) -> Self {
@@ -290,28 +227,29 @@ impl Host {
     fn vote(self, v: OwnVote, bytes: &[u8], out: &mut [u8]) -> Self {
         let replica = self.replica;
         let r = cast(replica, v, bytes);
-        say_vote(out, r);
+        let said = say_vote(out, r);
         let next = r.state;
-        self.with(next)
+        self.with(next, said)
     }
 
     fn receive(self, a: Arrival, bytes: &[u8], out: &mut [u8]) -> Self {
         let replica = self.replica;
         let r = handle(replica, a, bytes);
         let outcome = r.outcome;
-        say_handling(out, sender_of(a), outcome);
+        let said = say_handling(out, sender_of(a), outcome);
         let next = r.state;
-        self.with(next)
+        self.with(next, said)
     }
 
     // A refused batch keeps the last report.
-    fn processed(self, r: Processed, out: &mut [u8]) -> Self {
-        if say_processed(out, r) {
+    fn processed(self, r: Processed, said: usize) -> Self {
+        let outcome = r.outcome;
+        if reported(outcome) {
             let next = r.state;
             let report = r.batch;
-            return Host::of(next, true, report);
+            return Host::of(next, true, report, said);
         }
-        self
+        self.saying(said)
     }
 
     fn process(
@@ -324,14 +262,14 @@ impl Host {
         out: &mut [u8],
     ) -> Self {
         let replica = self.replica;
-        let r = process_output::process_output(replica, inner, batch, verdicts, faults, due);
-        self.processed(r, out)
+        let answered = crate::lent::process(replica, inner, batch, verdicts, faults, due, out);
+        let r = answered.processed;
+        self.processed(r, answered.said)
     }
 
     fn command(self, c: Command, first: &[u8], second: &[u8], out: &mut [u8]) -> Self {
         if !self.started {
-            no_engine();
-            return self;
+            return self.saying(no_engine(out));
         }
         match c {
             Command::Vote(v) => self.vote(v, first, out),
@@ -343,19 +281,19 @@ impl Host {
         }
     }
 
+    // A line that is skipped answers nothing.
     fn answer_call(self, call: Call, first: &[u8], second: &[u8], out: &mut [u8]) -> Self {
         match call {
-            Call::Start(s) => return self.first_call(s, first, second, out),
-            Call::Command(c) => return self.command(c, first, second, out),
-            Call::Query(q) => ask(self, q, out),
-            Call::Lookup(l) => look_up(l, first, out),
-            Call::Bad => bad_line(),
-            Call::Skipped => {}
+            Call::Start(s) => self.first_call(s, first, second, out),
+            Call::Command(c) => self.command(c, first, second, out),
+            Call::Query(q) => self.saying(ask(self, q, out)),
+            Call::Lookup(l) => self.saying(look_up(l, first, out)),
+            Call::Bad => self.saying(bad_line(out)),
+            Call::Skipped => self.saying(0),
         }
-        self
     }
 
-    // Answers a line.
+    // Puts the answer of a line into `out`.
     pub(crate) fn answer(
         self,
         line: &[u8],

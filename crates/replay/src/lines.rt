@@ -3,7 +3,9 @@ ghost use mathlib.Core.Path.{_≡_};
 ghost use Prim.Native.Nat.{_≤_};
 ghost use lib.ListN.{length};
 use crate::calls::Host;
+use crate::fields::first as first_bytes;
 use libc::STDIN_FILENO;
+use libc::STDOUT_FILENO;
 
 // The place of the first line feed at or after `from`, or the length.
 fn line_end(s: &[u8], from: usize) -> usize
@@ -74,19 +76,30 @@ fn take_rest(line: &mut [u8], chunk: &[u8], t: Taken, n: usize) -> Taken
     }
 }
 
-// Reads a chunk. A last line without a line feed is a line.
+// The end of the input, with n bytes of a line held; nothing is left to be taken.
+fn ended(n: usize) -> Taken
+    ensures { λ r. ⌜ (r .held ≡ n) × (r .at ≡ 0) × (r .filled ≡ 0) ⌝ }
+{
+    Taken {
+        held: n,
+        whole: true,
+        at: 0,
+        filled: 0,
+        more: false,
+    }
+}
+
+// Reads a chunk. A last line without a line feed is a line. Where reading fails, that ends the input too, and a line that was cut off there is dropped.
 fn read_chunk(chunk: &mut [u8], n: usize) -> Taken
-    ensures { λ r. ⌜ (r .held ≡ n) × (r .at ≤ r .filled) × (r .filled ≤ length (now (chunk .exit))) ⌝ }
+    ensures { λ r. ⌜ (r .held ≤ n) × (r .at ≤ r .filled) × (r .filled ≤ length (now (chunk .exit))) ⌝ }
 {
     let got = libc::read(STDIN_FILENO, chunk);
-    if got <= 0 {
-        return Taken {
-            held: n,
-            whole: true,
-            at: 0,
-            filled: 0,
-            more: false,
-        };
+    if got < 0 {
+        os::fail(b"replay: standard input");
+        return ended(0);
+    }
+    if got == 0 {
+        return ended(n);
     }
     let filled = io::count(got, chunk);
     Taken {
@@ -134,6 +147,15 @@ fn next_line(line: &mut [u8], chunk: &mut [u8], from: Taken) -> Taken
     t
 }
 
+// Writes an answer, the first n bytes of `out`, and answers whether to go on; where writing fails, it says so on standard error.
+fn tell(out: &[u8], n: usize, more: bool) -> bool {
+    if io::write_all(STDOUT_FILENO, first_bytes(out, n)) {
+        return more;
+    }
+    os::fail(b"replay: standard output");
+    false
+}
+
 // Reads to the end of the input, with turns counted down as above.
 pub(crate) fn read_all(line: &mut [u8], first: &mut [u8], second: &mut [u8], out: &mut [u8]) {
     let mut chunk = io::large_buffer();
@@ -150,7 +172,7 @@ pub(crate) fn read_all(line: &mut [u8], first: &mut [u8], second: &mut [u8], out
         t = next_line(line, &mut chunk, t);
         let held = t.held;
         host = host.answer(&line[0..held], first, second, out);
-        if !t.more {
+        if !tell(out, host.said, t.more) {
             return;
         }
         turns -= 1;

@@ -4,6 +4,7 @@ ghost use Rattle.simulation.specs.Season.{replicas};
 use crate::batches::Written;
 use crate::batches::first;
 use crate::compare::Difference;
+use crate::host::Called;
 use batch::Batch;
 use change::ChangeState;
 use dynamic_honey_badger::DynamicHoneyBadger;
@@ -13,12 +14,13 @@ use process_output::BatchOutcome;
 use process_output::Processed;
 
 // Places from `count` on hold no replica. The report is the first replica's of the last batch,
-// and counts if that was not refused; `agree` says whether all answered the last batch alike.
+// and counts if that was not refused; `agree` says whether all answered the last batch alike, `going` whether all that was to be written was.
 pub struct Fleet {
     pub count: usize,
     pub states: [DynamicHoneyBadger; Fleet::LIMIT],
     pub report: Batch,
     pub agree: bool,
+    pub going: bool,
 }
 
 impl Fleet {
@@ -34,6 +36,7 @@ impl Fleet {
             states: [state; Fleet::LIMIT],
             report,
             agree: true,
+            going: true,
         }
     }
 
@@ -70,15 +73,23 @@ impl Fleet {
         self
     }
 
-    // Takes a batch and writes the step's line.
+    // Says so where a call behind a step did not answer as it had to.
+    pub(crate) fn expect(mut self, step: u64, right: bool) -> Self {
+        self.going = crate::show::expect(self.going, step, right);
+        self
+    }
+
+    // Takes a batch and writes the step's line; nothing once writing has failed.
     pub(crate) fn take(self, step: u64, inner: u64, batch: Written) -> Self {
-        let a = handle(step, self.replica(0), 0, inner, batch);
-        let f = self.lead(a);
-        let g = f.follow(step, a, inner, batch);
-        if g.agree {
-            tell(step, a);
+        if !self.going {
+            return self;
         }
-        g
+        let a = handle(self.replica(0), 0, inner, batch);
+        let first = a.processed;
+        let f = self.lead(first);
+        let g = f.expect(step, a.right);
+        let h = g.follow(step, first, inner, batch);
+        h.tell(step, first)
     }
 
     // What the first replica answered.
@@ -95,7 +106,7 @@ impl Fleet {
         let n = self.len();
         let mut i: usize = 1;
         while i < n {
-            let b = handle(step, self.replica(i), i, inner, batch);
+            let b = handle(self.replica(i), i, inner, batch);
             self = self.compared(step, first, i, b);
             i += 1;
         }
@@ -103,12 +114,34 @@ impl Fleet {
     }
 
     // What replica i answered, compared with the first's answer.
-    fn compared(mut self, step: u64, first: Processed, i: usize, b: Processed) -> Self
+    fn compared(self, step: u64, first: Processed, i: usize, b: Called) -> Self
         requires { ⌜ i < replicas ⌝ }
     {
-        self.agree = crate::show::still_agree(step, self.agree, i, difference(first, b));
-        let state = b.state;
-        self.put(i, state)
+        let other = b.processed;
+        let state = other.state;
+        let f = self.put(i, state);
+        let g = f.expect(step, b.right);
+        g.differs(step, i, difference(first, other))
+    }
+
+    // Whether all agree still, after replica i was compared with the first; the first difference of a step is said.
+    pub(crate) fn differs(mut self, step: u64, i: usize, d: Difference) -> Self {
+        let Difference::Nothing = d else {
+            if self.agree {
+                self.going = crate::show::differ(self.going, step, i, d);
+            }
+            self.agree = false;
+            return self;
+        };
+        self
+    }
+
+    // What all answered, where they agree.
+    fn tell(mut self, step: u64, a: Processed) -> Self {
+        if self.agree {
+            self.going = tell(self.going, step, a);
+        }
+        self
     }
 }
 
@@ -145,12 +178,12 @@ fn verdicts_of(batch: &[u8]) -> usize {
 }
 
 // The batch as one replica handles it.
-fn handle(step: u64, state: DynamicHoneyBadger, i: usize, inner: u64, batch: Written) -> Processed {
+fn handle(state: DynamicHoneyBadger, i: usize, inner: u64, batch: Written) -> Called {
     let bytes = batch.bytes;
     let lent = first(&bytes, batch.len);
     let verdicts = [verdict(i); Fleet::VERDICTS];
     let given = first(&verdicts, verdicts_of(lent));
-    crate::host::call(step, state, inner, lent, given)
+    crate::host::call(state, inner, lent, given)
 }
 
 // The refusal's number, 0 where there is none.
@@ -212,17 +245,17 @@ fn shared_count(faults: FaultLog) -> usize {
 }
 
 // Era and roster of a replica, at the end of a line.
-pub(crate) fn tell_network(state: DynamicHoneyBadger) {
+pub(crate) fn tell_network(going: bool, state: DynamicHoneyBadger) -> bool {
     let counter = state.vote_counter;
     let map = counter.pub_keys;
-    crate::show::network(counter.era, map);
+    crate::show::network(going, counter.era, map)
 }
 
-// What all answered. A refused batch has no faults.
-fn tell(step: u64, a: Processed) {
+// A refused batch has no faults.
+fn tell(going: bool, step: u64, a: Processed) -> bool {
     let outcome = a.outcome;
     let faults = a.faults;
-    crate::show::agree(step, number(outcome), shared_count(faults));
+    let still = crate::show::agree(going, step, number(outcome), shared_count(faults));
     let state = a.state;
-    tell_network(state);
+    tell_network(still, state)
 }

@@ -1,4 +1,6 @@
 // The season: a node is added, a schedule is chosen, a replica joins while a node leaves, a vote waits for another.
+ghost use Prim.Native.Nat.{_<_};
+ghost use Rattle.simulation.specs.Season.{replicas};
 use crate::batches;
 use crate::batches::Written;
 use crate::compare;
@@ -42,34 +44,43 @@ fn accepted(x: StartOutcome) -> bool {
     }
 }
 
-// The state of a replica that was started.
-fn started(r: Started) -> DynamicHoneyBadger {
-    let outcome = r.outcome;
-    show::expect(0, accepted(outcome));
-    r.state
-}
-
 // A replica with an own id, in era 0 of nodes 1 to 4.
-fn replica(our_id: u32) -> DynamicHoneyBadger {
+fn replica(our_id: u32) -> Started {
     let own = batches::node(our_id);
     let mut map = [0u8; 256];
     let mut params = [0u8; 64];
     let n = pub_key_map::write_map(&mut map, 0, batches::roster(4));
     let m = params::write_params(&mut params, 0, initial_params());
-    started(DynamicHoneyBadger::new(
+    DynamicHoneyBadger::new(
         our_id,
         own.key,
         0,
         batches::first(&map, n),
         batches::first(&params, m),
-    ))
+    )
+}
+
+// A fleet of one replica that was started.
+fn first_of(r: Started) -> Fleet {
+    let outcome = r.outcome;
+    let state = r.state;
+    let f = Fleet::new(state);
+    f.expect(0, accepted(outcome))
+}
+
+// One replica more that was started.
+fn with(f: Fleet, r: Started) -> Fleet {
+    let outcome = r.outcome;
+    let state = r.state;
+    let g = f.add(state);
+    g.expect(0, accepted(outcome))
 }
 
 // Two validators and an observer.
 pub(crate) fn start() -> Fleet {
-    let f = Fleet::new(replica(1));
-    let g = f.add(replica(2));
-    g.add(replica(9))
+    let f = first_of(replica(1));
+    let g = with(f, replica(2));
+    with(g, replica(9))
 }
 
 fn cast(x: VoteDone) -> bool {
@@ -80,17 +91,14 @@ fn cast(x: VoteDone) -> bool {
     }
 }
 
-// A replica's own vote to remove node 3.
-fn vote(state: DynamicHoneyBadger) -> DynamicHoneyBadger {
+// The first replica casts a vote of its own, to remove node 3.
+fn vote_alone(f: Fleet) -> Fleet {
+    let state = f.replica(0);
     let r = state.vote_to_remove(3);
     let outcome = r.outcome;
-    show::expect(1, cast(outcome));
-    r.state
-}
-
-// The first replica casts a vote of its own.
-fn vote_alone(f: Fleet) -> Fleet {
-    f.put(0, vote(f.replica(0)))
+    let voted = r.state;
+    let g = f.put(0, voted);
+    g.expect(1, cast(outcome))
 }
 
 fn told(x: Handling) -> u8 {
@@ -101,56 +109,51 @@ fn told(x: Handling) -> u8 {
     }
 }
 
-// The state after a message that was to be answered in a way.
-fn after(step: u64, expected: u8, r: Handled) -> DynamicHoneyBadger {
+// Replica i after a message that was to be answered in a way.
+fn after(f: Fleet, i: usize, step: u64, expected: u8, r: Handled) -> Fleet
+    requires { ⌜ i < replicas ⌝ }
+{
     let outcome = r.outcome;
-    show::expect(step, told(outcome) == expected);
-    r.state
+    let state = r.state;
+    let g = f.put(i, state);
+    g.expect(step, told(outcome) == expected)
 }
 
-// A message is received.
-fn hear(
-    state: DynamicHoneyBadger,
-    sender: u32,
-    expected: u8,
-    message: Written,
-) -> DynamicHoneyBadger {
+fn handled(state: DynamicHoneyBadger, sender: u32, message: Written) -> Handled {
     let bytes = message.bytes;
-    after(
-        1,
-        expected,
-        state.handle_message(sender, batches::first(&bytes, message.len)),
-    )
+    state.handle_message(sender, batches::first(&bytes, message.len))
 }
 
-// A due item is handed back.
-fn returned(state: DynamicHoneyBadger, item: Written) -> DynamicHoneyBadger {
-    let bytes = item.bytes;
-    after(
-        2,
-        QUIET,
-        due_item::handle_due_item(state, batches::first(&bytes, item.len)),
-    )
+// Replica i receives a message.
+fn hear(f: Fleet, i: usize, sender: u32, expected: u8, message: Written) -> Fleet
+    requires { ⌜ i < replicas ⌝ }
+{
+    after(f, i, 1, expected, handled(f.replica(i), sender, message))
 }
 
 // The second replica receives a vote of node 4 and a part of node 5.
 fn receive(f: Fleet, candidate: PubKeyMap) -> Fleet {
     let vote = batches::vote_message(1, 4, Change::node_change(candidate));
-    let voted = hear(f.replica(1), 4, QUIET, vote);
+    let g = hear(f, 1, 4, QUIET, vote);
     let part = batches::part_message(1, candidate, 5);
-    f.put(1, hear(voted, 5, QUIET, part))
+    hear(g, 1, 5, QUIET, part)
 }
 
 // The third replica receives a message whose last byte is missing.
 fn receive_damaged(f: Fleet, candidate: PubKeyMap) -> Fleet {
     let part = batches::part_message(1, candidate, 4);
-    f.put(2, hear(f.replica(2), 4, REFUSED, part.damaged()))
+    hear(f, 2, 4, REFUSED, part.damaged())
+}
+
+fn returned(state: DynamicHoneyBadger, item: Written) -> Handled {
+    let bytes = item.bytes;
+    due_item::handle_due_item(state, batches::first(&bytes, item.len))
 }
 
 // The first replica's host hands back an ack that was due.
 fn hand_back(f: Fleet, candidate: PubKeyMap) -> Fleet {
     let item = batches::ack_message(1, candidate, 1);
-    f.put(0, returned(f.replica(0), item))
+    after(f, 0, 2, QUIET, returned(f.replica(0), item))
 }
 
 // Between steps 1 and 2: own votes and messages.
@@ -208,16 +211,24 @@ fn start_joining(report: Batch) -> JoinStarted {
     DynamicHoneyBadger::new_joining(7, own.key, batches::first(&plan, n), DueList::LIMIT)
 }
 
-// One replica more, and whether it stands where the first stands.
-fn admit(f: Fleet, r: JoinStarted) -> Fleet {
+// Says that a replica joined, where it stands where the first stands.
+fn welcome(mut f: Fleet, joiner: DynamicHoneyBadger) -> Fleet {
+    if f.agree {
+        let still = show::joined(f.going, 7);
+        f.going = fleet::tell_network(still, joiner);
+    }
+    f
+}
+
+// One replica more, compared with the first.
+fn admit(mut f: Fleet, r: JoinStarted) -> Fleet {
+    f.agree = true;
     let outcome = r.outcome;
     let joiner = r.state;
-    show::expect(7, accepted(outcome));
-    if show::still_agree(7, true, 3, compare::shared_difference(f.replica(0), joiner)) {
-        show::joined(7);
-        fleet::tell_network(joiner);
-    }
-    f.add(joiner)
+    let g = f.expect(7, accepted(outcome));
+    let h = g.differs(7, 3, compare::shared_difference(g.replica(0), joiner));
+    let k = h.add(joiner);
+    welcome(k, joiner)
 }
 
 // Step 7: a replica joins from the plan that the first replica's report gives.

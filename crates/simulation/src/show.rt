@@ -1,90 +1,108 @@
-// The lines of a season.
+// The lines of a season. Each piece is written only while writing goes on, and answers whether it goes on.
 use crate::compare::Difference;
 use libc::STDOUT_FILENO;
 use pub_key_map::PubKeyMap;
 
+// Where writing fails, it says so on standard error, once.
+fn write(going: bool, s: &[u8]) -> bool {
+    if !going {
+        return false;
+    }
+    if io::write_all(STDOUT_FILENO, s) {
+        return true;
+    }
+    os::fail(b"simulation: standard output");
+    false
+}
+
+fn write_number(going: bool, x: u64) -> bool {
+    let mut digits = [0u8; 20];
+    let n = io::decimal(x, &mut digits);
+    write(going, &digits[..n])
+}
+
+// A number behind a word.
+fn write_named(going: bool, word: &[u8], x: u64) -> bool {
+    write_number(write(going, word), x)
+}
+
 // Era and roster, at the end of a line.
-pub(crate) fn network(era: u64, map: PubKeyMap) {
-    io::write_all(STDOUT_FILENO, b" era ");
-    io::print_decimal(STDOUT_FILENO, era);
-    io::write_all(STDOUT_FILENO, b" roster ");
-    show_ids(map);
-    io::write_all(STDOUT_FILENO, b"\n");
+pub(crate) fn network(going: bool, era: u64, map: PubKeyMap) -> bool {
+    let a = write_named(going, b" era ", era);
+    let b = write(a, b" roster ");
+    let c = write_ids(b, map);
+    write(c, b"\n")
+}
+
+// A comma before every item but the first.
+fn write_comma(going: bool, i: usize) -> bool {
+    if 0 < i {
+        return write(going, b",");
+    }
+    going
 }
 
 // Ids, as `1,2,3`.
-fn show_ids(map: PubKeyMap) {
+fn write_ids(going: bool, map: PubKeyMap) -> bool {
     let n = map.len();
+    let mut still = going;
     let mut i: usize = 0;
     while i < n {
-        if 0 < i {
-            io::write_all(STDOUT_FILENO, b",");
-        }
         let node = map.nodes[i];
-        io::print_decimal(STDOUT_FILENO, node.id as u64);
+        still = write_comma(still, i);
+        still = write_number(still, node.id as u64);
         i += 1;
     }
+    still
+}
+
+// A number behind a word, where it is not 0.
+fn write_some(going: bool, word: &[u8], x: u64) -> bool {
+    if x == 0 {
+        return going;
+    }
+    write_named(going, word, x)
 }
 
 // All replicas answered the same; a refusal is shown by its number, and how many faults they all told.
-pub(crate) fn agree(step: u64, refusal: u8, faults: usize) {
-    io::print_decimal(STDOUT_FILENO, step);
-    io::write_all(STDOUT_FILENO, b" agree");
-    if refusal != 0 {
-        io::write_all(STDOUT_FILENO, b" refused ");
-        io::print_decimal(STDOUT_FILENO, refusal as u64);
-    }
-    if faults != 0 {
-        io::write_all(STDOUT_FILENO, b" faults ");
-        io::print_decimal(STDOUT_FILENO, faults as u64);
-    }
+pub(crate) fn agree(going: bool, step: u64, refusal: u8, faults: usize) -> bool {
+    let a = write_number(going, step);
+    let b = write(a, b" agree");
+    let c = write_some(b, b" refused ", refusal as u64);
+    write_some(c, b" faults ", faults as u64)
 }
 
 // A replica joined, and stands where the others stand.
-pub(crate) fn joined(step: u64) {
-    io::print_decimal(STDOUT_FILENO, step);
-    io::write_all(STDOUT_FILENO, b" joined");
+pub(crate) fn joined(going: bool, step: u64) -> bool {
+    write(write_number(going, step), b" joined")
 }
 
-fn what(d: Difference) {
+fn what(going: bool, d: Difference) -> bool {
     match d {
-        Difference::Nothing => io::write_all(STDOUT_FILENO, b"nothing"),
-        Difference::Refusal => io::write_all(STDOUT_FILENO, b"refusal"),
-        Difference::Report => io::write_all(STDOUT_FILENO, b"report"),
-        Difference::Faults => io::write_all(STDOUT_FILENO, b"faults"),
-        Difference::Era => io::write_all(STDOUT_FILENO, b"era"),
-        Difference::Roster => io::write_all(STDOUT_FILENO, b"roster"),
-        Difference::Votes => io::write_all(STDOUT_FILENO, b"votes"),
-        Difference::Params => io::write_all(STDOUT_FILENO, b"params"),
-        Difference::KeyGeneration => io::write_all(STDOUT_FILENO, b"key generation"),
+        Difference::Nothing => write(going, b"nothing"),
+        Difference::Refusal => write(going, b"refusal"),
+        Difference::Report => write(going, b"report"),
+        Difference::Faults => write(going, b"faults"),
+        Difference::Era => write(going, b"era"),
+        Difference::Roster => write(going, b"roster"),
+        Difference::Votes => write(going, b"votes"),
+        Difference::Params => write(going, b"params"),
+        Difference::KeyGeneration => write(going, b"key generation"),
     }
-    ;
 }
 
-fn differ(step: u64, i: usize, d: Difference) {
-    io::print_decimal(STDOUT_FILENO, step);
-    io::write_all(STDOUT_FILENO, b" differ replica ");
-    io::print_decimal(STDOUT_FILENO, i as u64);
-    io::write_all(STDOUT_FILENO, b" in ");
-    what(d);
-    io::write_all(STDOUT_FILENO, b"\n");
-}
-
-// Whether all agree still, after replica i was compared with the first; the first difference of a step is said.
-pub(crate) fn still_agree(step: u64, agree: bool, i: usize, d: Difference) -> bool {
-    let Difference::Nothing = d else {
-        if agree {
-            differ(step, i, d);
-        }
-        return false;
-    };
-    agree
+// In what replica i differs from the first.
+pub(crate) fn differ(going: bool, step: u64, i: usize, d: Difference) -> bool {
+    let a = write_number(going, step);
+    let b = write_named(a, b" differ replica ", i as u64);
+    let c = write(b, b" in ");
+    write(what(c, d), b"\n")
 }
 
 // Says so where a call behind a step did not answer as it had to; else nothing.
-pub(crate) fn expect(step: u64, right: bool) {
-    if !right {
-        io::print_decimal(STDOUT_FILENO, step);
-        io::write_all(STDOUT_FILENO, b" unexpected\n");
+pub(crate) fn expect(going: bool, step: u64, right: bool) -> bool {
+    if right {
+        return going;
     }
+    write(write_number(going, step), b" unexpected\n")
 }

@@ -1,2 +1,3 @@
 pub mod KeyGenLaws
 pub mod KeyGenCodes
+pub mod KeyGenCauses

@@ -1,1 +1,2 @@
 pub mod SyncKeyGen
+pub mod KeyGenCauses

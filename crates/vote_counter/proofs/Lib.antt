@@ -1,3 +1,4 @@
 pub mod PendingTurns
 pub mod WinnerTurns
 pub mod CounterLaws
+pub mod PageLaws

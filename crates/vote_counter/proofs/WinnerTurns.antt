@@ -1,22 +1,19 @@
 -- Turns of the two loops that look for the winner: voters by ascending place, and for each the choices up to its own.
 -- Assumes nothing.
 use Prim.Native.Nat.{ℕ, _+_, _-_, _≤_, _<_}
-use mathlib.Core.Path.{_≡_, sym, ap, _∙_}
+use mathlib.Core.Path.{_≡_, _∙_}
 use mathlib.Core.List.{List, [], _∷_}
 use mathlib.Core.Bool.{Bool, true, false, cond}
 use native.Mathlib.Omega.{arith}
 use native.Mathlib.Numerals.{add-one}
 use lib.Dec.{ltb}
 use lib.ListN.{length, take, drop, getD}
-use lib.Seq.{take-suc, drop-cons, take-add}
+use lib.Seq.{length-take-le, take-suc, drop-cons, take-add}
 use borrow.Author.Tests.{lt-ltb, le-ltb}
-use Rattle.lists.specs.Lists.{Found, found, nothing}
+use Rattle.lists.specs.Lists.{found, nothing}
 use Rattle.lists.proofs.ListLaws.{rest-none}
-use Rattle.winner.specs.Winner.{support, winnerAfter}
+use Rattle.winner.specs.Winner.{support, placeAfter}
 use Rattle.winner.proofs.WinnerLaws.{support-append}
-use Rattle.vote_counter.specs.Answers.{saidWinner}
-use Rattle.vote_counter.specs.declared.Winner.{Winner}
-use Rattle.vote_counter.specs.declared.Winner.the-variants.{Voter, Nobody}
 
 module _ {A : Type 0} (eq : A → A → Bool) (xs : List A) where
   -- one more choice is counted
@@ -40,29 +37,21 @@ module _ {A : Type 0} (eq : A → A → Bool) (xs : List A) where
   -- the voter at place i, whose choice is x
   module _ (f i : ℕ) where
     module _ (x z : A) (e : x ≡ getD xs i z) (l : i < length xs) where
-      one-voter : winnerAfter eq f (take i xs) (drop i xs)
-          ≡ cond (ltb f (support eq x (take (i + 1) xs))) (found x) (winnerAfter eq f (take (i + 1) xs) (drop (i + 1) xs))
-      unfolding winnerAfter
-      one-voter = rw (e, add-one, drop-cons xs i z l, take-suc xs i z l)
+      one-voter : placeAfter eq f (take i xs) (drop i xs)
+          ≡ cond (ltb f (support eq x (take (i + 1) xs))) (found i) (placeAfter eq f (take (i + 1) xs) (drop (i + 1) xs))
+      unfolding placeAfter
+      one-voter = rw (e, add-one, drop-cons xs i z l, take-suc xs i z l, length-take-le i xs (omega arith))
 
       -- it passes f, maybe before all up to its own are counted
-      pub voter-wins : (j : ℕ) → j ≤ i → f < support eq x (take (j + 1) xs) → winnerAfter eq f (take i xs) (drop i xs) ≡ found x
+      pub voter-wins : (j : ℕ) → j ≤ i → f < support eq x (take (j + 1) xs) → placeAfter eq f (take i xs) (drop i xs) ≡ found i
       voter-wins j h k =
           let m = count-further x (j + 1) (i + 1) (omega arith) in
           one-voter ∙ rw (lt-ltb f (support eq x (take (i + 1) xs)) (omega arith))
 
       -- it does not pass f
-      pub voter-loses : support eq x (take (i + 1) xs) ≤ f → winnerAfter eq f (take i xs) (drop i xs) ≡ winnerAfter eq f (take (i + 1) xs) (drop (i + 1) xs)
+      pub voter-loses : support eq x (take (i + 1) xs) ≤ f → placeAfter eq f (take i xs) (drop i xs) ≡ placeAfter eq f (take (i + 1) xs) (drop (i + 1) xs)
       voter-loses k = one-voter ∙ rw (le-ltb f (support eq x (take (i + 1) xs)) k)
 
-    pub voters-end : length xs ≤ i → winnerAfter eq f (take i xs) (drop i xs) ≡ nothing
-    unfolding winnerAfter
+    pub voters-end : length xs ≤ i → placeAfter eq f (take i xs) (drop i xs) ≡ nothing
+    unfolding placeAfter
     voters-end l = rw (rest-none xs i l)
-
--- where nobody wins there is no place
-pub nobody-no-place : (w : Winner) (i n : ℕ) → w ≡ Nobody → saidWinner w ≡ found i → i < n
-nobody-no-place w i n e h = absurd (let q : _≡_ {A = Found ℕ} nothing (found i) = sym (ap saidWinner e) ∙ h in let z : _≡_ {A = ℕ} 0 1 = cc in let y : ⊥ = omega arith in y)
-
--- the place that is told is the winner's
-pub told-place : (i j n : ℕ) → saidWinner (Voter i) ≡ found j → i < n → j < n
-told-place i j n e l = let q : i ≡ j = cc in omega (arith, q)

@@ -1,5 +1,6 @@
 -- What the counter's answers say.
 use Prim.Native.Nat.{ℕ, zero, suc}
+use mathlib.Core.Path.{_≡_}
 use mathlib.Core.List.{List, [], _∷_}
 use mathlib.Core.Bool.{Bool, true, false}
 use lib.ListN.{getD}
@@ -7,8 +8,9 @@ use Rattle.lists.specs.Lists.{Found, found, nothing}
 use Rattle.bincode.specs.Outcome.{Outcome, done, refused}
 use Rattle.change.specs.Change.{ChangeOf}
 use Rattle.votes.specs.declared.SignedVote.{SignedVote}
-use Rattle.votes.specs.Votes.{SignedVoteOf, signedOf, noSigned}
+use Rattle.votes.specs.Votes.{SignedVoteOf, signedOf, signedHeld, noSigned}
 use Rattle.vote_counter.specs.VoteCounter.{VoteEffect, stored, nothing-new, fault, Added, Signed, counterOf}
+use Rattle.vote_counter.specs.declared.VoteCounter.{VoteCounter}
 use Rattle.vote_counter.specs.declared.VoteOutcome.{VoteOutcome}
 use Rattle.vote_counter.specs.declared.VoteOutcome.the-variants as vote
 use Rattle.vote_counter.specs.declared.VoteAdded.{VoteAdded}
@@ -34,6 +36,13 @@ saidSign (sign.Refused n) v = refused n
 abbrev pub signedAnswer : VoteSigned → Signed
 signedAnswer r = record { counter = counterOf (r .counter); answer = saidSign (r .outcome) (r .vote) }
 
+-- a refusal hands back the very counter that was given, and the empty vote
+abbrev pub notSigned : VoteCounter → ℕ → VoteSigned
+notSigned c n = record { counter = c; outcome = sign.Refused n; vote = signedHeld noSigned }
+
+abbrev pub SignRefusedKeeps : VoteSigned → VoteCounter → Type 0
+SignRefusedKeeps r c = (n : ℕ) → r .outcome ≡ sign.Refused n → r ≡ notSigned c n
+
 -- votes are handed out by place, 0 first, none past the last
 unfoldable pub pendingAt : ℕ → List SignedVoteOf → Found SignedVoteOf
 pendingAt n [] = nothing
@@ -46,6 +55,13 @@ saidFound false v = nothing
 
 abbrev pub saidPending : PendingVote → Found SignedVoteOf
 saidPending r = saidFound (r .found) (r .vote)
+
+-- past the last place stands the empty vote
+abbrev pub nonePending : PendingVote
+nonePending = record { found = false; vote = signedHeld noSigned }
+
+abbrev pub NonePendingEmpty : PendingVote → Type 0
+NonePendingEmpty r = r .found ≡ false → r ≡ nonePending
 
 -- the change that the vote at a place is for
 abbrev pub choiceAt : List SignedVoteOf → ℕ → ChangeOf

@@ -9,12 +9,13 @@ use Rattle.util.specs.MaxFaulty.{maxFaulty}
 use Rattle.bincode.specs.Sizes.{Sizes}
 use Rattle.bincode.specs.Outcome.{Outcome, done, refused}
 use Rattle.pub_key_map.specs.declared.Node.{Node}
+use Rattle.pub_key_map.specs.declared.PubKeyMap.{PubKeyMap}
 use Rattle.pub_key_map.specs.PubKeyMap.{nodesOf}
 use Rattle.network_info.specs.NetworkInfo.{keyOf}
 use Rattle.change.specs.Change.{ChangeOf, sameChange}
 use Rattle.votes.specs.Votes.{SignedVoteOf}
-use Rattle.signed_votes.specs.SignedVotes.{voterOf, numOf, votesOf}
-use Rattle.winner.specs.Winner.{winner}
+use Rattle.signed_votes.specs.SignedVotes.{voterOf, numOf, votesOf, noVotes}
+use Rattle.winner.specs.Winner.{winner, winnerPlace}
 use Rattle.fault_log.specs.declared.FaultKind.{FaultKind}
 use Rattle.fault_log.specs.declared.FaultKind.the-variants.{InvalidVoteSignature, InvalidCommittedVote}
 use Rattle.vote_counter.specs.declared.VoteCounter.{VoteCounter}
@@ -123,6 +124,10 @@ pendingVotes c = filter (newer c) (c .pending)
 unfoldable pub computeWinner : CounterOf → Found ChangeOf
 computeWinner c = winner sameChange (maxFaulty (length (c .nodes))) (map (λ v. v .vote .change) (c .committed))
 
+-- the place of the winning voter among them: that at which counting stops, not another that chose the same
+unfoldable pub winnerAt : CounterOf → Found ℕ
+winnerAt c = winnerPlace sameChange (maxFaulty (length (c .nodes))) (map (λ v. v .vote .change) (c .committed))
+
 -- what any value of the struct stands for
 abbrev pub counterOf : VoteCounter → CounterOf
 counterOf c =
@@ -134,3 +139,7 @@ counterOf c =
       pending = votesOf (c .pending);
       committed = votesOf (c .committed);
     }
+
+-- the struct that an era begins with
+abbrev pub newHeld : ℕ → ℕ → PubKeyMap → ℕ → VoteCounter
+newHeld id key m era = record { «our_id» = id; «secret_key» = key; «pub_keys» = m; era = era; pending = noVotes; committed = noVotes }

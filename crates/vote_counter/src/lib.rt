@@ -5,12 +5,11 @@ ghost use lib.ListN.{length};
 ghost use Rattle.lists.specs.Lists.{found, mapFound};
 ghost use Rattle.bincode.specs.Sizes.{base};
 ghost use Rattle.bincode.specs.Outcome.{done};
-ghost use Rattle.pub_key_map.specs.PubKeyMap.{nodesOf};
 ghost use Rattle.change.specs.Change.{changeOf, sameChange};
 ghost use Rattle.votes.specs.Votes.{signedOf};
 ghost use Rattle.signed_votes.specs.SignedVotes.{votesOf};
-ghost use Rattle.vote_counter.specs.VoteCounter.{newCounter, counterOf, obsolete, validVote, addPending, addCommitted, signedWith, signVoteFor, pendingVotes, computeWinner};
-ghost use Rattle.vote_counter.specs.Answers.{addedOf, signedAnswer, pendingAt, saidPending, choiceAt, saidWinner};
+ghost use Rattle.vote_counter.specs.VoteCounter.{newHeld, counterOf, obsolete, validVote, addPending, addCommitted, signedWith, signVoteFor, pendingVotes, computeWinner, winnerAt};
+ghost use Rattle.vote_counter.specs.Answers.{addedOf, signedAnswer, SignRefusedKeeps, pendingAt, saidPending, NonePendingEmpty, choiceAt, saidWinner};
 use change::Change;
 use fault_log::FaultKind;
 use network_info::NodeKey;
@@ -47,7 +46,7 @@ pub enum SignOutcome {
     Refused(u8),
 }
 
-// The vote stands beside the outcome; it is empty where signing was refused.
+// The vote stands beside the outcome; where signing was refused it is empty, and the counter is the one given.
 pub struct VoteSigned {
     pub counter: VoteCounter,
     pub outcome: SignOutcome,
@@ -101,7 +100,7 @@ fn agrees(votes: SignedVotes, j: usize, change: Change) -> bool
 
 impl VoteCounter {
     pub fn new(our_id: u32, secret_key: u64, pub_keys: PubKeyMap, era: u64) -> Self
-        ensures { λ r. ⌜ counterOf r ≡ newCounter «our_id» «secret_key» (nodesOf «pub_keys») era ⌝ }
+        ensures { λ r. ⌜ r ≡ newHeld «our_id» «secret_key» «pub_keys» era ⌝ }
     {
         VoteCounter {
             our_id,
@@ -189,7 +188,7 @@ impl VoteCounter {
 
     // The own vote with a number, signed and pending.
     fn sign_with(mut self, change: Change, num: u64) -> VoteSigned
-        ensures { λ r. ⌜ signedAnswer r ≡ signedWith base (counterOf self) (changeOf change) (done num) ⌝ }
+        ensures { λ r. ⌜ (signedAnswer r ≡ signedWith base (counterOf self) (changeOf change) (done num)) × SignRefusedKeeps r self ⌝ }
     {
         let x = SignedVote {
             vote: Vote {
@@ -212,7 +211,7 @@ impl VoteCounter {
 
     // An own vote; row 11 where the own pending vote's number is the last.
     pub fn sign_vote_for(mut self, change: Change) -> VoteSigned
-        ensures { λ r. ⌜ signedAnswer r ≡ signVoteFor base (counterOf self) (changeOf change) ⌝ }
+        ensures { λ r. ⌜ (signedAnswer r ≡ signVoteFor base (counterOf self) (changeOf change)) × SignRefusedKeeps r self ⌝ }
     {
         let pending = self.pending;
         let VoteNum::Num(num) = pending.num_of(self.our_id) else {
@@ -230,7 +229,7 @@ impl VoteCounter {
 
     // The pending vote at a place, 0 first, of those newer than their voter's committed vote.
     pub fn pending_vote(self, place: usize) -> PendingVote
-        ensures { λ r. ⌜ saidPending r ≡ pendingAt place (pendingVotes (counterOf self)) ⌝ }
+        ensures { λ r. ⌜ (saidPending r ≡ pendingAt place (pendingVotes (counterOf self))) × NonePendingEmpty r ⌝ }
     {
         let pending = self.pending;
         let committed = self.committed;
@@ -260,7 +259,9 @@ impl VoteCounter {
 
     // The first voter, by ascending id, whose change more than f voters up to there have chosen; its place is one of the votes.
     pub fn compute_winner(self) -> Winner
-        ensures { λ r. ⌜ (mapFound (choiceAt (votesOf (self .committed))) (saidWinner r) ≡ computeWinner (counterOf self)) × ((i : ℕ) → saidWinner r ≡ found i → i < length (votesOf (self .committed))) ⌝ }
+        ensures { λ r. ⌜ (mapFound (choiceAt (votesOf (self .committed))) (saidWinner r) ≡ computeWinner (counterOf self))
+            × ((i : ℕ) → saidWinner r ≡ found i → i < length (votesOf (self .committed)))
+            × (saidWinner r ≡ winnerAt (counterOf self)) ⌝ }
     {
         let map = self.pub_keys;
         let f = network_info::num_faulty(map);

@@ -1,2 +1,3 @@
 pub mod VoteLaws
 pub mod VoteCodes
+pub mod VoteCauses

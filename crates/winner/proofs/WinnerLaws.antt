@@ -9,9 +9,28 @@ use native.Mathlib.Omega.{arith}
 use lib.Dec.{ltb}
 use borrow.Author.Tests.{ltb-true, ltb-false}
 use Rattle.lists.specs.Lists.{Found, found, nothing}
-use Rattle.winner.specs.Winner.{support, winnerAfter, winner}
+use Rattle.winner.specs.Winner.{support, winnerAfter, winner, placeAfter, winnerPlace}
 
 module _ {A : Type 0} (eq : A → A → Bool) where
+  -- one voter is more than none, and not more than one
+  pub one-passes-none : (x : A) → eq x x ≡ true → winner eq 0 (x ∷ []) ≡ found x
+  unfolding winner winnerAfter support
+  one-passes-none x e = rw e
+
+  pub one-is-not-two : (x : A) → eq x x ≡ true → winner eq 1 (x ∷ []) ≡ nothing
+  unfolding winner winnerAfter support
+  one-is-not-two x e = rw e
+
+  -- the second voter's choice passes 1 at the third voter, before the fourth is counted
+  pub second-wins : (x y : A) → eq x x ≡ true → eq y y ≡ true → eq x y ≡ false → winner eq 1 (x ∷ y ∷ y ∷ x ∷ []) ≡ found y
+  unfolding winner winnerAfter support
+  second-wins x y e h n = rw (e, h, n)
+
+  -- of the winning choice's voters, the one at whom it passes 1 is told: place 2, not 0
+  pub third-is-told : (x y : A) → eq x x ≡ true → eq y y ≡ true → eq x y ≡ false → eq y x ≡ false → winnerPlace eq 1 (x ∷ y ∷ x ∷ []) ≡ found 2
+  unfolding winnerPlace placeAfter support
+  third-is-told x y e h n m = rw (e, h, n, m)
+
   pub support-append : (x : A) (xs ys : List A) → support eq x (xs ++ ys) ≡ support eq x xs + support eq x ys
   unfolding support
   support-append x [] ys = omega arith

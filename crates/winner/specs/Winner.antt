@@ -2,6 +2,7 @@
 use Prim.Native.Nat.{ℕ, _+_}
 use mathlib.Core.List.{List, [], _∷_, _++_}
 use mathlib.Core.Bool.{Bool, cond}
+use lib.ListN.{length}
 use lib.Dec.{ltb}
 use Rattle.lists.specs.Lists.{Found, found, nothing}
 
@@ -20,3 +21,12 @@ module _ {A : Type 0} (eq : A → A → Bool) where
   -- the choices of the voters, by ascending voter
   unfoldable pub winner : ℕ → List A → Found A
   winner f xs = winnerAfter f [] xs
+
+  -- the same counting, told by the place of the voter at whom it stops: how many were counted before
+  unfoldable pub placeAfter : ℕ → List A → List A → Found ℕ
+  placeAfter f seen [] = nothing
+  placeAfter f seen (x ∷ xs) = cond (ltb f (support x (seen ++ (x ∷ [])))) (found (length seen)) (placeAfter f (seen ++ (x ∷ [])) xs)
+
+  -- the winning voter's place, 0 first
+  unfoldable pub winnerPlace : ℕ → List A → Found ℕ
+  winnerPlace f xs = placeAfter f [] xs

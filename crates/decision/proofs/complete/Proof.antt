@@ -1,10 +1,11 @@
+use mathlib.Core.Bool.{true≢false}
 use mathlib.Core.Path.{refl, ap, _∙_}
 use Rattle.lists.specs.Lists.{found}
 use Rattle.pub_key_map.specs.PubKeyMap.{nodesOf}
 use Rattle.change.specs.Change.{complete}
 use Rattle.dynamic_honey_badger.specs.State.{stateOf, withKeyGen, newEra}
 use Rattle.lists.specs.Lists.{Found}
-use Rattle.key_gen_state.specs.KeyGenState.{KeyGenStateOf}
+use Rattle.key_gen_state.specs.KeyGenState.{KeyGenStateOf, stateOf as stateOfKeyGen}
 use Rattle.decision.proofs.DecisionLaws.{same-decision}
 use borrow.Author.Needs.{needs}
 use Rattle.decision.proofs.complete.Statement.{statement}
@@ -26,12 +27,14 @@ generate-requires : tie.Need-generate-requires
 generate-requires c κs = search needs
 
 returns : tie.Need-returns
-returns c counts =
-    let a = c .before .before .before .before .before .before .args in
-    same-decision (c .before .before .before .restart .ensures ∙ ap (λ (g : Found KeyGenStateOf). newEra (a .era) (nodesOf (a .key-gen .«pub_keys»)) (withKeyGen (stateOf (a .state)) g)) (c .before .before .before .before .empty .ensures))
-    (c .before .complete .ensures ∙ ap complete (c .before .before .node-change .ensures))
-    refl
-    (ap found (c .generate .ensures))
+returns c =
+    let a = c .before .before .before .before .before .before .args in (
+      λ counts. same-decision (c .before .before .before .restart .ensures ∙ ap (λ (g : Found KeyGenStateOf). newEra (a .era) (nodesOf (a .key-gen .«pub_keys»)) (withKeyGen (stateOf (a .state)) g)) (ap stateOfKeyGen (c .before .before .before .before .empty .ensures)))
+          (c .before .complete .ensures ∙ ap complete (c .before .before .node-change .ensures))
+          refl
+          (ap found (c .generate .ensures)),
+      λ e. absurd (true≢false e),
+    )
 
 pub complete-spec : {M : Type 1} → statement M
 complete-spec =

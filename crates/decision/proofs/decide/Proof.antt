@@ -25,10 +25,12 @@ complete-requires c κs = search needs
 
 returns : tie.Need-returns
 returns c =
-    let a = c .before .before .before .before .before .args in
-    c .complete .ensures (a .state .«key_gen_state» .counts .counts)
-    ∙ ap (λ (g : Found KeyGenStateOf). completedBy (a .era) (stateOf (a .state)) g) (sym (ready-runs (a .state .«key_gen_state») (ready (c .before .before))))
-    ∙ sym (decide-ready base (a .era) (stateOf (a .state)) (ready (c .before .before)))
+    let a = c .before .before .before .before .before .args in (
+      c .complete .ensures .0 (a .state .«key_gen_state» .counts .counts)
+          ∙ ap (λ (g : Found KeyGenStateOf). completedBy (a .era) (stateOf (a .state)) g) (sym (ready-runs (a .state .«key_gen_state») (ready (c .before .before))))
+          ∙ sym (decide-ready base (a .era) (stateOf (a .state)) (ready (c .before .before))),
+      c .complete .ensures .1,
+    )
 
 by-winner-requires : tie.Need-by-winner-requires
 by-winner-requires c κs = search needs
@@ -36,7 +38,7 @@ by-winner-requires c κs = search needs
 returns-2 : tie.Need-returns-2
 returns-2 c =
     let a = c .before .before .before .before .args in
-    c .by-winner .ensures ∙ sym (decide-elects base (a .era) (stateOf (a .state)) (not-ready (c .before)))
+    (c .by-winner .ensures .0 ∙ sym (decide-elects base (a .era) (stateOf (a .state)) (not-ready (c .before))), c .by-winner .ensures .1)
 
 pub decide-spec : {M : Type 1} → statement M
 decide-spec =

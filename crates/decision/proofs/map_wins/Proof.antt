@@ -6,9 +6,11 @@ use Rattle.pub_key_map.specs.PubKeyMap.{nodesOf}
 use Rattle.change.specs.Change.{inProgress}
 use Rattle.due.specs.declared.DueKind.the-variants.{Part}
 use Rattle.dynamic_honey_badger.specs.State.{StateOf, stateOf, keyGenFor}
+use Rattle.dynamic_honey_badger.proofs.StateLaws.{key-gen-begun}
 use Rattle.decision.specs.Decision.{decidedOf}
 use Rattle.decision.proofs.DecisionLaws.{same-decision, map-again, map-new}
 use borrow.Author.Needs.{needs}
+use Rattle.decision.specs.declared.Decision.{Decision}
 use Rattle.decision.proofs.map_wins.Statement.{statement}
 use Rattle.decision.proofs.map_wins.Tie as tie
 
@@ -26,10 +28,12 @@ decided-requires c κs = search needs
 
 returns : tie.Need-returns
 returns c =
-    let a = c .before .before .before .before .before .before .args in
-    ap (decidedOf (a .era)) (c .decided .ensures)
-    ∙ same-decision refl (c .before .before .before .before .in-progress .ensures ∙ ap inProgress (c .before .before .before .before .before .node-change .ensures)) refl refl
-    ∙ sym (map-again base (a .era) (stateOf (a .state)) (nodesOf (a .map)) (sym (c .before .before .is-candidate .ensures) ∙ c .before .if1 .taken))
+    let a = c .before .before .before .before .before .before .args in (
+      ap (decidedOf (a .era)) (c .decided .ensures)
+          ∙ same-decision refl (c .before .before .before .before .in-progress .ensures ∙ ap inProgress (c .before .before .before .before .before .node-change .ensures)) refl refl
+          ∙ sym (map-again base (a .era) (stateOf (a .state)) (nodesOf (a .map)) (sym (c .before .before .is-candidate .ensures) ∙ c .before .if1 .taken)),
+      λ e. ap (λ (d : Decision). d .recipe) (c .decided .ensures),
+    )
 
 is-member-requires : tie.Need-is-member-requires
 is-member-requires c κs = search needs
@@ -37,21 +41,27 @@ is-member-requires c κs = search needs
 restart-requires : tie.Need-restart-requires
 restart-requires c κs = search needs
 
-start-key-gen-requires : tie.Need-start-key-gen-requires
-start-key-gen-requires c κs = search needs
+new-requires : tie.Need-new-requires
+new-requires c κs = search needs
+
+new-requires-2 : tie.Need-new-requires-2
+new-requires-2 c κs = search needs
 
 decided-requires-2 : tie.Need-decided-requires-2
 decided-requires-2 c κs = search needs
 
 returns-2 : tie.Need-returns-2
 returns-2 c =
-    let a = c .before .before .before .before .before .before .before .before .before .before .before .args in
-    ap (decidedOf (a .era)) (c .decided2 .ensures)
-    ∙ same-decision (c .before .start-key-gen .ensures ∙ ap (λ (s : StateOf). keyGenFor base (nodesOf (a .map)) s) (c .before .before .restart .ensures))
-    (c .before .before .before .before .before .before .before .before .before .in-progress .ensures ∙ ap inProgress (c .before .before .before .before .before .before .before .before .before .before .node-change .ensures))
-    (ap (λ (b : Bool). cond b (record { kind = Part; era = a .era } ∷ []) []) (c .before .before .before .is-member .ensures))
-    refl
-    ∙ sym (map-new base (a .era) (stateOf (a .state)) (nodesOf (a .map)) (sym (c .before .before .before .before .before .before .before .is-candidate .ensures) ∙ c .before .before .before .before .before .before .if1 .left))
+    let a = c .before .before .before .before .before .before .before .before .before .before .before .before .before .args in
+    let begun = key-gen-begun (c .before .before .before .before .restart .result) (a .map) _ (c .before .new2 .result) (c .before .before .new .ensures) (c .before .new2 .ensures) in (
+      ap (decidedOf (a .era)) (c .decided2 .ensures)
+          ∙ same-decision (begun ∙ ap (λ (s : StateOf). keyGenFor base (nodesOf (a .map)) s) (c .before .before .before .before .restart .ensures))
+          (c .before .before .before .before .before .before .before .before .before .before .before .in-progress .ensures ∙ ap inProgress (c .before .before .before .before .before .before .before .before .before .before .before .before .node-change .ensures))
+          (ap (λ (b : Bool). cond b (record { kind = Part; era = a .era } ∷ []) []) (c .before .before .before .before .before .is-member .ensures))
+          refl
+          ∙ sym (map-new base (a .era) (stateOf (a .state)) (nodesOf (a .map)) (sym (c .before .before .before .before .before .before .before .before .before .is-candidate .ensures) ∙ c .before .before .before .before .before .before .before .before .if1 .left)),
+      λ e. ap (λ (d : Decision). d .recipe) (c .decided2 .ensures),
+    )
 
 pub map-wins-spec : {M : Type 1} → statement M
 map-wins-spec =
@@ -64,6 +74,7 @@ map-wins-spec =
     returns
     is-member-requires
     restart-requires
-    start-key-gen-requires
+    new-requires
+    new-requires-2
     decided-requires-2
     returns-2)

@@ -54,7 +54,7 @@ returns-3 c =
     let s = stateOf (a .state) in
     let p = c .before .before .before .before .push in
     let v = sym (c .before .before .before .before .before .before .before .is-validator .ensures) ∙ not-false _ (c .before .before .before .before .before .before .if2 .left) in
-    (ap handledOf (c .done3 .ensures) ∙ sym (kept-stored base s (signedOf (a .m)) (c .before .before .before .before .before .before .before .before .if1 .left) v (pushedOf (p .result)) (p .ensures) ∙ ap {B = HandledOf} (λ (o : PushOutcome). storedIn s s (saidPush o (p .result .store))) (c .before .enum-told .given .1)), λ n e. absurd (quiet-not-refused n (sym (ap (λ (r : Handled). r .outcome) (c .done3 .ensures)) ∙ e)))
+    (ap handledOf (c .done3 .ensures) ∙ sym (kept-stored base s (signedOf (a .m)) (c .before .before .before .before .before .before .before .before .if1 .left) v (pushedOf (p .result)) (p .ensures .0) ∙ ap {B = HandledOf} (λ (o : PushOutcome). storedIn s s (saidPush o (p .result .store))) (c .before .enum-told .given .1)), λ n e. absurd (quiet-not-refused n (sym (ap (λ (r : Handled). r .outcome) (c .done3 .ensures)) ∙ e)))
 
 returns-4 : tie.Need-returns-4
 returns-4 c =
@@ -62,7 +62,7 @@ returns-4 c =
     let s = stateOf (a .state) in
     let p = c .before .before .before .before .before .push in
     let v = sym (c .before .before .before .before .before .before .before .before .is-validator .ensures) ∙ not-false _ (c .before .before .before .before .before .before .before .if2 .left) in
-    (ap handledOf (c .done4 .ensures) ∙ sym (kept-stored base s (signedOf (a .m)) (c .before .before .before .before .before .before .before .before .before .if1 .left) v (pushedOf (p .result)) (p .ensures) ∙ ap {B = HandledOf} (λ (o : PushOutcome). storedIn s s (saidPush o (p .result .store))) (c .before .before .outcome .given .1)), λ n e. ap (λ (r : Handled). r .state) (c .done4 .ensures))
+    (ap handledOf (c .done4 .ensures) ∙ sym (kept-stored base s (signedOf (a .m)) (c .before .before .before .before .before .before .before .before .before .if1 .left) v (pushedOf (p .result)) (p .ensures .0) ∙ ap {B = HandledOf} (λ (o : PushOutcome). storedIn s s (saidPush o (p .result .store))) (c .before .before .outcome .given .1)), λ n e. ap (λ (r : Handled). r .state) (c .done4 .ensures))
 
 pub keep-spec : {M : Type 1} → statement M
 keep-spec =

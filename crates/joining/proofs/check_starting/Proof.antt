@@ -12,8 +12,8 @@ use Rattle.pub_key_map.specs.declared.ReadMap.{ReadMap}
 use Rattle.pub_key_map.specs.PubKeyMap.{noNode, nodesOf, readMap, mapHeld}
 use Rattle.params.specs.declared.ReadParams.{ReadParams}
 use Rattle.params.specs.Params.{saidParams}
-use Rattle.joining.specs.Starting.{startChecked, startMap}
-use Rattle.joining.proofs.StartLaws.{empty-yes, empty-no, start-key, start-empty, start-done, start-map-refused, start-params-refused, start-read}
+use Rattle.joining.specs.Starting.{startChecked, startMap, startingOf}
+use Rattle.joining.proofs.StartLaws.{empty-yes, empty-no, start-key, start-empty, start-done, start-map-refused, start-params-refused, start-read, accepted-not-refused, starting-empty}
 use Rattle.joining.proofs.check_starting.Statement.{statement}
 use Rattle.joining.proofs.check_starting.Tie as tie
 
@@ -55,7 +55,7 @@ returns : tie.Need-returns
 returns c =
     let s = now (c .before .before .before .before .before .before .before .before .args .map) in
     let e = c .before .before .before .before .before .read-whole-map .ensures in
-    c .refused-start .ensures ∙ sym (start-map-refused base _ s _ _ (number-refused (whole (readMap fixed base s) s) _ (ap (λ (r : ReadMap). r .step) e) _ _ (c .before .before .enum-told2 .given .1) (c .before .number .ensures)))
+    (ap startingOf (c .refused-start .ensures) ∙ sym (start-map-refused base _ s _ _ (number-refused (whole (readMap fixed base s) s) _ (ap (λ (r : ReadMap). r .step) e) _ _ (c .before .before .enum-told2 .given .1) (c .before .number .ensures))), starting-empty _ _ (c .refused-start .ensures))
 
 read-whole-params-requires : tie.Need-read-whole-params-requires
 read-whole-params-requires c κs = search needs
@@ -78,14 +78,14 @@ returns-2 c =
     let told = c .before .before .enum-told3 .given .1 in
     let k = c .before .number2 .ensures ∙ ap (λ (r : ReadParams). numberOf (saidParams r)) told in
     let r = sym (c .before .before .before .before .read-whole-params .ensures) ∙ ap saidParams told ∙ ap refuse (sym k) in
-    c .refused-start2 .ensures ∙ sym (start-params-refused base _ (now (c .before .before .before .before .before .before .before .before .before .before .before .args .map)) (now (c .before .before .before .before .before .before .before .before .before .before .before .args .params)) (m .0) _ (m .1) _ r)
+    (ap startingOf (c .refused-start2 .ensures) ∙ sym (start-params-refused base _ (now (c .before .before .before .before .before .before .before .before .before .before .before .args .map)) (now (c .before .before .before .before .before .before .before .before .before .before .before .args .params)) (m .0) _ (m .1) _ r), starting-empty _ _ (c .refused-start2 .ensures))
 
 refused-start-requires-3 : tie.Need-refused-start-requires-3
 refused-start-requires-3 c κs = search needs
 
 returns-3 : tie.Need-returns-3
 returns-3 c =
-    c .refused-start3 .ensures ∙ sym (params-read (c .before .before .before) ∙ start-key _ _ _ (c .before .if1 .taken))
+    (ap startingOf (c .refused-start3 .ensures) ∙ sym (params-read (c .before .before .before) ∙ start-key _ _ _ (c .before .if1 .taken)), starting-empty _ _ (c .refused-start3 .ensures))
 
 len-requires : tie.Need-len-requires
 len-requires c κs = search needs
@@ -95,11 +95,11 @@ refused-start-requires-4 c κs = search needs
 
 returns-4 : tie.Need-returns-4
 returns-4 c =
-    c .refused-start4 .ensures ∙ sym (params-read (c .before .before .before .before .before) ∙ start-empty _ _ _ (c .before .before .before .if1 .left) (empty-yes (nodesOf (c .before .before .before .before .before .before .before .before .before .before .before .read-whole-map .result .map)) (sym (c .before .before .len .ensures .0) ∙ c .before .if2 .taken)))
+    (ap startingOf (c .refused-start4 .ensures) ∙ sym (params-read (c .before .before .before .before .before) ∙ start-empty _ _ _ (c .before .before .before .if1 .left) (empty-yes (nodesOf (c .before .before .before .before .before .before .before .before .before .before .before .read-whole-map .result .map)) (sym (c .before .before .len .ensures .0) ∙ c .before .if2 .taken))), starting-empty _ _ (c .refused-start4 .ensures))
 
 returns-5 : tie.Need-returns-5
 returns-5 c =
-    sym (params-read (c .before .before .before .before) ∙ start-done _ _ _ (c .before .before .if1 .left) (empty-no (nodesOf (c .before .before .before .before .before .before .before .before .before .before .read-whole-map .result .map)) (λ e. c .if2 .left (c .before .len .ensures .0 ∙ e))))
+    (sym (params-read (c .before .before .before .before) ∙ start-done _ _ _ (c .before .before .if1 .left) (empty-no (nodesOf (c .before .before .before .before .before .before .before .before .before .before .read-whole-map .result .map)) (λ e. c .if2 .left (c .before .len .ensures .0 ∙ e)))), λ n e. absurd (accepted-not-refused n e))
 
 pub check-starting-spec : {M : Type 1} → statement M
 check-starting-spec =

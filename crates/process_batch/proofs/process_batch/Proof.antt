@@ -60,6 +60,7 @@ returns c =
       p .process-output .ensures .1,
       (faults-kept r _ e faultId _, faults-kept r _ e kindNumber _),
       (due-kept r _ e dueKind _, due-kept r _ e dueIndex _, due-kept r _ e dueEra _),
+      p .process-output .ensures .2,
     )
 
 same-length : tie.Need-same-length
@@ -93,6 +94,7 @@ returns-2 c =
         due-written r e dueIndex _ _ (c .before .before .before .before .before .before .write-due-indices .ensures),
         due-written r e dueEra _ _ (c .before .before .write-due-eras .ensures),
       ),
+      p .process-output .ensures .2,
     )
 
 pub process-batch-spec : {M : Type 1} → statement M

@@ -6,7 +6,7 @@ use Rattle.bincode.specs.Sizes.{base}
 use Rattle.internal_contrib.specs.InternalContrib.{readBatch}
 use Rattle.internal_contrib.specs.Places.{saidCheck}
 use Rattle.dynamic_honey_badger.specs.State.{stateOf}
-use Rattle.process_output.proofs.ProcessLaws.{denied-as, row-faults, row-due, row-unread, row-contribs, checked-refused, checked-count}
+use Rattle.process_output.proofs.ProcessLaws.{denied-as, refused-bare, row-faults, row-due, row-unread, row-contribs, checked-refused, checked-count}
 use Rattle.process_output.proofs.process_output.Statement.{statement}
 use Rattle.process_output.proofs.process_output.Tie as tie
 
@@ -15,8 +15,9 @@ refused-requires c κs = search needs
 
 returns : tie.Need-returns
 returns c = (
-  denied-as (c .refused .result) (c .before .before .before .before .args .state) 1 (c .refused .ensures .0) (c .refused .ensures .1) ∙ sym (row-faults base _ _ (omega (arith, c .before .if1 .taken))),
-  λ n e. c .refused .ensures .0,
+  denied-as (c .refused .result) (c .before .before .before .before .args .state) 1 (c .refused .ensures) ∙ sym (row-faults base _ _ (omega (arith, c .before .if1 .taken))),
+  refused-bare (c .refused .result) _ _ (c .refused .ensures) .0,
+  refused-bare (c .refused .result) _ _ (c .refused .ensures) .1,
 )
 
 refused-requires-2 : tie.Need-refused-requires-2
@@ -24,8 +25,9 @@ refused-requires-2 c κs = search needs
 
 returns-2 : tie.Need-returns-2
 returns-2 c = (
-  denied-as (c .refused2 .result) (c .before .before .before .before .before .args .state) 1 (c .refused2 .ensures .0) (c .refused2 .ensures .1) ∙ sym (row-due base _ _ (c .before .before .if1 .left) (c .before .if2 .taken)),
-  λ n e. c .refused2 .ensures .0,
+  denied-as (c .refused2 .result) (c .before .before .before .before .before .args .state) 1 (c .refused2 .ensures) ∙ sym (row-due base _ _ (c .before .before .if1 .left) (c .before .if2 .taken)),
+  refused-bare (c .refused2 .result) _ _ (c .refused2 .ensures) .0,
+  refused-bare (c .refused2 .result) _ _ (c .refused2 .ensures) .1,
 )
 
 check-batch-requires : tie.Need-check-batch-requires
@@ -47,9 +49,10 @@ returns-3 : tie.Need-returns-3
 returns-3 c =
     let a = c .before .before .before .before .before .before .before .before .before .args in
     let x = checked-refused (readBatch base (now (a .batch))) _ (ap saidCheck (sym (c .before .before .n .given .1)) ∙ c .before .before .before .before .check-batch .ensures) in (
-      denied-as (c .refused3 .result) (a .state) _ (c .refused3 .ensures .0) (c .refused3 .ensures .1)
+      denied-as (c .refused3 .result) (a .state) _ (c .refused3 .ensures)
           ∙ sym (row-unread base (stateOf (a .state)) _ (c .before .before .before .before .before .before .if1 .left) (c .before .before .before .before .before .if2 .left) _ x),
-      λ n e. c .refused3 .ensures .0,
+      refused-bare (c .refused3 .result) _ _ (c .refused3 .ensures) .0,
+      refused-bare (c .refused3 .result) _ _ (c .refused3 .ensures) .1,
     )
 
 returns-4 : tie.Need-returns-4
@@ -59,6 +62,7 @@ returns-4 c =
       c .process .ensures .0 (x .0) (x .1) (a .«fault-places») (a .«due-places») (x .2) (x .3)
           ∙ sym (row-contribs base (stateOf (a .state)) _ (c .before .before .before .before .before .before .if1 .left) (c .before .before .before .before .before .if2 .left) (x .0) (x .1) (x .2)),
       c .process .ensures .1,
+      c .process .ensures .2,
     )
 
 pub process-output-spec : {M : Type 1} → statement M

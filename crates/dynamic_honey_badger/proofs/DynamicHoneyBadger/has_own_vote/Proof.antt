@@ -41,7 +41,7 @@ returns c =
     let v = c .before .before .before .before .before .loop .inv in
     let r = c .before .before .before .pending-vote in
     let f = ap (λ (b : Bool). saidFound b (r .result .vote)) (not-true (r .result .found) (c .if1 .taken)) in
-    sym (v .3 ∙ some-none (x .«our_id») vs i (sym (r .ensures) ∙ f))
+    sym (v .3 ∙ some-none (x .«our_id») vs i (sym (r .ensures .0) ∙ f))
 
 returns-2 : tie.Need-returns-2 Inv-loop μ-loop
 returns-2 c =
@@ -51,7 +51,7 @@ returns-2 c =
     let v = c .before .before .before .before .before .before .before .before .loop .inv in
     let r = c .before .before .before .before .before .before .pending-vote in
     let f = ap (λ (b : Bool). saidFound b (r .result .vote)) (not-false (r .result .found) (c .before .before .before .if1 .left)) in
-    sym (v .3 ∙ some-hit (x .«our_id») vs i (signedOf (r .result .vote)) (sym (r .ensures) ∙ f) (c .if2 .taken))
+    sym (v .3 ∙ some-hit (x .«our_id») vs i (signedOf (r .result .vote)) (sym (r .ensures .0) ∙ f) (c .if2 .taken))
 
 add-place : tie.Need-add-place Inv-loop μ-loop
 add-place c = search needs
@@ -67,7 +67,7 @@ loop-again c =
     let v = c .before .before .before .before .before .before .before .before .loop .inv in
     let r = c .before .before .before .before .before .before .pending-vote in
     let f = ap (λ (b : Bool). saidFound b (r .result .vote)) (not-false (r .result .found) (c .before .before .before .if1 .left)) in
-    (search needs, v .1, v .2, v .3 ∙ some-miss (x .«our_id») vs i (signedOf (r .result .vote)) (sym (r .ensures) ∙ f) (c .if2 .left))
+    (search needs, v .1, v .2, v .3 ∙ some-miss (x .«our_id») vs i (signedOf (r .result .vote)) (sym (r .ensures .0) ∙ f) (c .if2 .left))
 
 returns-3 : tie.Need-returns-3 Inv-loop μ-loop
 returns-3 c =

@@ -90,7 +90,7 @@ returns-3 c =
     let g = runningOf (a .self .«key_gen_state») in
     let p = c .before .before .before .before .push in
     let t = withKeyGen s (found (runningOf (k .result .state))) in
-    (ap handledOf (c .done3 .ensures) ∙ ap {B = HandledOf} (λ (x : Found KeyGenStateOf). handledAs (withStore (withKeyGen s x) (storeOf (p .result .store))) quiet) (kept (c .before .before .before .before .before .before .before .before .before .before)) ∙ sym (key-stored base s m g (runs (c .before .before .before .before .before .before .before .before .before .before .before .before .before .before .before)) (countedOf (k .result)) (k .ensures .0) (omega (arith, c .before .before .before .before .before .before .if2 .left, c .before .before .before .before .before .before .before .before .len .ensures .0)) (pushedOf (p .result)) (p .ensures) ∙ ap {B = HandledOf} (λ (o : PushOutcome). storedIn s t (saidPush o (p .result .store))) (c .before .enum-told .given .1)), λ n e. absurd (quiet-not-refused n (sym (ap (λ (r : Handled). r .outcome) (c .done3 .ensures)) ∙ e)))
+    (ap handledOf (c .done3 .ensures) ∙ ap {B = HandledOf} (λ (x : Found KeyGenStateOf). handledAs (withStore (withKeyGen s x) (storeOf (p .result .store))) quiet) (kept (c .before .before .before .before .before .before .before .before .before .before)) ∙ sym (key-stored base s m g (runs (c .before .before .before .before .before .before .before .before .before .before .before .before .before .before .before)) (countedOf (k .result)) (k .ensures .0) (omega (arith, c .before .before .before .before .before .before .if2 .left, c .before .before .before .before .before .before .before .before .len .ensures .0)) (pushedOf (p .result)) (p .ensures .0) ∙ ap {B = HandledOf} (λ (o : PushOutcome). storedIn s t (saidPush o (p .result .store))) (c .before .enum-told .given .1)), λ n e. absurd (quiet-not-refused n (sym (ap (λ (r : Handled). r .outcome) (c .done3 .ensures)) ∙ e)))
 
 returns-4 : tie.Need-returns-4
 returns-4 c =
@@ -101,7 +101,7 @@ returns-4 c =
     let g = runningOf (a .self .«key_gen_state») in
     let p = c .before .before .before .before .before .push in
     let t = withKeyGen s (found (runningOf (k .result .state))) in
-    (ap handledOf (c .done4 .ensures) ∙ sym (key-stored base s m g (runs (c .before .before .before .before .before .before .before .before .before .before .before .before .before .before .before .before)) (countedOf (k .result)) (k .ensures .0) (omega (arith, c .before .before .before .before .before .before .before .if2 .left, c .before .before .before .before .before .before .before .before .before .len .ensures .0)) (pushedOf (p .result)) (p .ensures) ∙ ap {B = HandledOf} (λ (o : PushOutcome). storedIn s t (saidPush o (p .result .store))) (c .before .before .outcome .given .1)), λ n e. ap (λ (r : Handled). r .state) (c .done4 .ensures))
+    (ap handledOf (c .done4 .ensures) ∙ sym (key-stored base s m g (runs (c .before .before .before .before .before .before .before .before .before .before .before .before .before .before .before .before)) (countedOf (k .result)) (k .ensures .0) (omega (arith, c .before .before .before .before .before .before .before .if2 .left, c .before .before .before .before .before .before .before .before .before .len .ensures .0)) (pushedOf (p .result)) (p .ensures .0) ∙ ap {B = HandledOf} (λ (o : PushOutcome). storedIn s t (saidPush o (p .result .store))) (c .before .before .outcome .given .1)), λ n e. ap (λ (r : Handled). r .state) (c .done4 .ensures))
 
 pub store-key-gen-message-spec : {M : Type 1} → statement M
 store-key-gen-message-spec =

@@ -9,10 +9,9 @@ use Rattle.bincode.proofs.ReadLaws.{held-next, number-refused}
 use Rattle.change.specs.declared.ReadChange.{ReadChange}
 use Rattle.change.specs.Change.{nodeChange, changeOf, changeHeld, readChange}
 use Rattle.change.proofs.ChangeLaws.{held-change}
-use Rattle.dynamic_honey_badger.specs.declared.Voted.{Voted}
 use Rattle.dynamic_honey_badger.specs.OwnVotes.{votedOf, voteFor}
 use Rattle.dynamic_honey_badger.specs.State.{stateOf}
-use Rattle.dynamic_honey_badger.proofs.OwnVotesLaws.{bytes-refused, bytes-read}
+use Rattle.dynamic_honey_badger.proofs.OwnVotesLaws.{not-cast, bytes-refused, bytes-read}
 use Rattle.dynamic_honey_badger.proofs.DynamicHoneyBadger.vote_for.Statement.{statement}
 use Rattle.dynamic_honey_badger.proofs.DynamicHoneyBadger.vote_for.Tie as tie
 
@@ -36,7 +35,7 @@ returns c =
     let a = c .before .before .before .before .before .before .before .args in
     let s = now (a .change) in
     let e = c .before .before .before .before .before .read-whole-change .ensures in
-    (ap votedOf (c .no-vote .ensures) ∙ sym (bytes-refused base (stateOf (a .self)) s _ (number-refused (whole (readChange fixed base s) s) _ (ap (λ (r : ReadChange). r .step) e) _ _ (c .before .before .enum-told2 .given .1) (c .before .number .ensures))), λ n e. ap (λ (r : Voted). r .state) (c .no-vote .ensures))
+    (ap votedOf (c .no-vote .ensures) ∙ sym (bytes-refused base (stateOf (a .self)) s _ (number-refused (whole (readChange fixed base s) s) _ (ap (λ (r : ReadChange). r .step) e) _ _ (c .before .before .enum-told2 .given .1) (c .before .number .ensures))), not-cast _ _ _ (c .no-vote .ensures))
 
 vote-requires : tie.Need-vote-requires
 vote-requires c κs = search needs

@@ -3,10 +3,9 @@ use mathlib.Core.Path.{sym, ap, _∙_}
 use Rattle.bincode.specs.Sizes.{base}
 use Rattle.change.specs.Change.{nodeChange}
 use Rattle.node_change.specs.NodeChange.{withNode}
-use Rattle.dynamic_honey_badger.specs.declared.Voted.{Voted}
 use Rattle.dynamic_honey_badger.specs.OwnVotes.{votedOf, voteFor}
 use Rattle.dynamic_honey_badger.specs.State.{nodesIn, stateOf}
-use Rattle.dynamic_honey_badger.proofs.OwnVotesLaws.{add-key, add-nothing, add-full, add-voted}
+use Rattle.dynamic_honey_badger.proofs.OwnVotesLaws.{not-cast, add-key, add-nothing, add-full, add-voted}
 use Rattle.dynamic_honey_badger.proofs.DynamicHoneyBadger.vote_to_add.Statement.{statement}
 use Rattle.dynamic_honey_badger.proofs.DynamicHoneyBadger.vote_to_add.Tie as tie
 
@@ -16,7 +15,7 @@ no-vote-requires c κs = search needs
 returns : tie.Need-returns
 returns c =
     let a = c .before .before .args in
-    (ap votedOf (c .no-vote .ensures) ∙ sym (add-key base (stateOf (a .self)) (a .id) (a .key) (c .before .if1 .taken)), λ n e. ap (λ (r : Voted). r .state) (c .no-vote .ensures))
+    (ap votedOf (c .no-vote .ensures) ∙ sym (add-key base (stateOf (a .self)) (a .id) (a .key) (c .before .if1 .taken)), not-cast _ _ _ (c .no-vote .ensures))
 
 is-validator-requires : tie.Need-is-validator-requires
 is-validator-requires c κs = search needs
@@ -30,7 +29,7 @@ no-vote-requires-2 c κs = search needs
 returns-2 : tie.Need-returns-2
 returns-2 c =
     let a = c .before .before .before .before .before .before .before .before .args in
-    (ap votedOf (c .no-vote2 .ensures) ∙ sym (add-full base (stateOf (a .self)) (a .id) (a .key) (c .before .before .before .before .before .before .before .if1 .left) (sym (c .before .before .before .before .before .before .is-validator .ensures) ∙ c .before .before .before .before .before .if2 .taken) (sym (c .before .before .is-full-for .ensures) ∙ c .before .if3 .taken)), λ n e. ap (λ (r : Voted). r .state) (c .no-vote2 .ensures))
+    (ap votedOf (c .no-vote2 .ensures) ∙ sym (add-full base (stateOf (a .self)) (a .id) (a .key) (c .before .before .before .before .before .before .before .if1 .left) (sym (c .before .before .before .before .before .before .is-validator .ensures) ∙ c .before .before .before .before .before .if2 .taken) (sym (c .before .before .is-full-for .ensures) ∙ c .before .if3 .taken)), not-cast _ _ _ (c .no-vote2 .ensures))
 
 new-requires : tie.Need-new-requires
 new-requires c κs = search needs
@@ -57,7 +56,7 @@ no-vote-requires-3 c κs = search needs
 returns-4 : tie.Need-returns-4
 returns-4 c =
     let a = c .before .before .before .before .args in
-    (ap votedOf (c .no-vote3 .ensures) ∙ sym (add-nothing base (stateOf (a .self)) (a .id) (a .key) (c .before .before .before .if1 .left) (sym (c .before .before .is-validator .ensures) ∙ c .before .if2 .left)), λ n e. ap (λ (r : Voted). r .state) (c .no-vote3 .ensures))
+    (ap votedOf (c .no-vote3 .ensures) ∙ sym (add-nothing base (stateOf (a .self)) (a .id) (a .key) (c .before .before .before .if1 .left) (sym (c .before .before .is-validator .ensures) ∙ c .before .if2 .left)), not-cast _ _ _ (c .no-vote3 .ensures))
 
 pub vote-to-add-spec : {M : Type 1} → statement M
 vote-to-add-spec =

@@ -1,4 +1,5 @@
 use borrow.Author.Needs.{needs}
+use mathlib.Core.Bool.{true≢false}
 use mathlib.Core.Path.{sym}
 use native.Mathlib.Omega.{arith}
 use lib.ListN.{length-map}
@@ -20,7 +21,7 @@ element-copy-out-t10 c = search needs
 returns : tie.Need-returns
 returns c =
     let s = c .before .before .before .args .t1 in
-    sym (at-held signedOf (s .messages) (s .count) (c .before .before .before .args .place) _ (omega (arith, c .before .before .len .ensures .0, length-map (held s) signedOf, c .before .if1 .taken)))
+    (sym (at-held signedOf (s .messages) (s .count) (c .before .before .before .args .place) _ (omega (arith, c .before .before .len .ensures .0, length-map (held s) signedOf, c .before .if1 .taken))), λ e. absurd (true≢false e))
 
 empty-requires : tie.Need-empty-requires
 empty-requires c κs = search needs
@@ -28,7 +29,7 @@ empty-requires c κs = search needs
 returns-2 : tie.Need-returns-2
 returns-2 c =
     let s = c .before .before .before .args .t1 in
-    sym (at-past (storeOf s) (c .before .before .before .args .place) (omega (arith, c .before .before .len .ensures .0, c .before .if1 .left)))
+    (sym (at-past (storeOf s) (c .before .before .before .args .place) (omega (arith, c .before .before .len .ensures .0, c .before .if1 .left))), λ e. rw (c .empty .ensures))
 
 pub at-spec : {M : Type 1} → statement M
 at-spec =

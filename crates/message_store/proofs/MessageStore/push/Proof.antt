@@ -1,5 +1,5 @@
 use borrow.Author.Needs.{needs}
-use mathlib.Core.Path.{_≡_, sym, ap, _∙_}
+use mathlib.Core.Path.{_≡_, refl, sym, ap, _∙_}
 use mathlib.Core.List.{_∷_, [], map, map-append}
 use native.Mathlib.Omega.{arith}
 use lib.ListN.{length, length-map}
@@ -8,7 +8,7 @@ use Rattle.bincode.specs.Sizes.{base}
 use Rattle.bincode.specs.Outcome.{done}
 use Rattle.key_gen_message.specs.KeyGenMessage.{signedOf}
 use Rattle.message_store.specs.MessageStore.{held, storeOf}
-use Rattle.message_store.proofs.StoreLaws.{push-full, push-room}
+use Rattle.message_store.proofs.StoreLaws.{push-full, push-room, stored-not-refused}
 use Rattle.message_store.proofs.MessageStore.push.Statement.{statement}
 use Rattle.message_store.proofs.MessageStore.push.Tie as tie
 
@@ -38,12 +38,12 @@ returns c =
     let m = c .before .before .args .m in
     let n = c .before .len .result in
     let last = append-live (s .messages) (s .count) (base .store) n m (places (c .before)) (counted (c .before)) (omega (arith, c .if1 .taken)) in
-    ap done (ap (map signedOf) last ∙ map-append signedOf (held s) (m ∷ [])) ∙ sym (push-room base (storeOf s) (signedOf m) (omega (arith, c .before .len .ensures .0, c .if1 .taken)))
+    (ap done (ap (map signedOf) last ∙ map-append signedOf (held s) (m ∷ [])) ∙ sym (push-room base (storeOf s) (signedOf m) (omega (arith, c .before .len .ensures .0, c .if1 .taken))), λ k e. absurd (stored-not-refused k e))
 
 returns-2 : tie.Need-returns-2
 returns-2 c =
     let s = c .before .before .args .t1 in
-    sym (push-full base (storeOf s) (signedOf (c .before .before .args .m)) (omega (arith, c .before .len .ensures .0, c .if1 .left)))
+    (sym (push-full base (storeOf s) (signedOf (c .before .before .args .m)) (omega (arith, c .before .len .ensures .0, c .if1 .left))), λ k e. refl)
 
 pub push-spec : {M : Type 1} → statement M
 push-spec = tie.close (tie.spec len-requires mul-m element-set-from-m add-self returns returns-2)

@@ -2,20 +2,22 @@ use Rattle.lists.specs.Lists.{found, mapFound}
 use Rattle.vote_counter.specs.declared.Winner.{Winner}
 use mathlib.Core.Path.{_≡_, refl, sym, ap, _∙_}
 use native.Mathlib.Omega.{arith}
-use Prim.Native.Nat.{_+_, _-_, _≤_, _<_}
+use Prim.Native.Nat.{ℕ, _+_, _-_, _≤_, _<_}
 use lib.ListN.{length, take, drop, getD, length-map, List·getD-map}
 use mathlib.Core.List.{List, map}
 use mathlib.Core.Logic.{⊎-elim}
 use Rattle.bincode.specs.Sizes.{base}
 use Rattle.change.specs.Change.{ChangeOf, changeOf, sameChange}
-use Rattle.winner.specs.Winner.{support, winner, winnerAfter}
+use Rattle.winner.specs.Winner.{support, placeAfter, winnerPlace}
 use Rattle.votes.specs.Votes.{noSigned, SignedVoteOf}
 use Rattle.signed_votes.specs.SignedVotes.{votesOf}
 use Rattle.signed_votes.specs.declared.SignedVotes.{SignedVotes}
-use Rattle.vote_counter.specs.VoteCounter.{computeWinner}
+use Rattle.vote_counter.specs.VoteCounter.{computeWinner, winnerAt, counterOf}
 use Rattle.vote_counter.specs.Answers.{choiceAt, saidWinner}
-use Rattle.vote_counter.specs.declared.Winner.the-variants.{Nobody}
-use Rattle.vote_counter.proofs.WinnerTurns.{count-yes, count-no, voter-wins, voter-loses, voters-end, nobody-no-place, told-place}
+use Rattle.vote_counter.specs.declared.VoteCounter.{VoteCounter}
+use Rattle.vote_counter.specs.declared.Winner.the-variants.{Voter, Nobody}
+use Rattle.vote_counter.proofs.WinnerTurns.{count-yes, count-no, voter-wins, voter-loses, voters-end}
+use Rattle.vote_counter.proofs.CounterLaws.{winner-first, winner-chosen}
 use borrow.Author.Needs.{needs}
 use Rattle.vote_counter.proofs.VoteCounter.compute_winner.Statement.{statement}
 use Rattle.vote_counter.proofs.VoteCounter.compute_winner.Tie as tie
@@ -29,11 +31,11 @@ Inv-loop f committed n won₀ i change count₀ j₀ won count j =
     (j ≤ i + 1) × (count ≡ support sameChange (changeOf change) (take j (choices committed))) × (count ≤ f) × (count ≤ j) × (won ≡ won₀)
 
 abbrev μ-loop : tie.MeasureT-loop
-μ-loop f committed n won₀ i change count₀ j₀ won count j = i + 1 - j
+μ-loop f committed n won₀ i change count₀ j₀ won count j = n - j
 
 abbrev Inv-voters : tie.InvT-voters
 Inv-voters f committed n won₀ i₀ won i =
-    (i ≤ n) × (n ≤ base .nodes) × (n ≡ length (votesOf committed)) × (won ≡ Nobody) × (winner sameChange f (choices committed) ≡ winnerAfter sameChange f (take i (choices committed)) (drop i (choices committed)))
+    (i ≤ n) × (n ≤ base .nodes) × (n ≡ length (votesOf committed)) × (won ≡ Nobody) × (winnerPlace sameChange f (choices committed) ≡ placeAfter sameChange f (take i (choices committed)) (drop i (choices committed)))
 
 abbrev μ-voters : tie.MeasureT-voters
 μ-voters f committed n won₀ i₀ won i = n - i
@@ -52,7 +54,7 @@ len-requires : tie.Need-len-requires Inv-loop μ-loop Inv-voters μ-voters
 len-requires c κs = search needs
 
 voters-holds : tie.Need-voters-holds Inv-loop μ-loop Inv-voters μ-voters
-unfolding winner
+unfolding winnerPlace
 voters-holds c = (search needs, c .len .ensures .1, c .len .ensures .0, refl, refl)
 
 change-of-requires : tie.Need-change-of-requires Inv-loop μ-loop Inv-voters μ-voters
@@ -102,18 +104,26 @@ voters-again c =
     let l : i < length (choices x) = omega (arith, length-map (votesOf x) (λ v. v .vote .change), u .2, c .before .before .before .voters-test .taken) in
     (search needs, u .1, u .2, v .4 ∙ u .3, u .4 ∙ voter-loses sameChange (choices x) _ i _ _ (chosen (c .before .before)) l (omega (arith, rw s at (v .1), v .2)))
 
+-- the place that is told fixes the rest
+at-place : (c : VoteCounter) (r : Winner) → saidWinner r ≡ winnerAt (counterOf c)
+    → (mapFound (choiceAt (votesOf (c .committed))) (saidWinner r) ≡ computeWinner (counterOf c))
+    × ((i : ℕ) → saidWinner r ≡ found i → i < length (votesOf (c .committed)))
+    × (saidWinner r ≡ winnerAt (counterOf c))
+at-place c r e = (ap (mapFound (choiceAt (votesOf (c .committed)))) e ∙ winner-chosen (counterOf c), λ i h. winner-first (counterOf c) i .0 (sym e ∙ h) .0, e)
+
 returns : tie.Need-returns Inv-loop μ-loop Inv-voters μ-voters
-unfolding computeWinner
+unfolding winnerAt
 returns c =
     let x = c .before .before .before .before .before .before .args .self .committed in
-    let u = c .before .voters .inv in (
-      ap (λ (w : Winner). mapFound (choiceAt (votesOf x)) (saidWinner w)) (u .3)
-          ∙ sym (rw (c .before .before .before .before .num-faulty .ensures) at (u .4 ∙ voters-end sameChange (choices x) _ (c .before .voters .i) (omega (arith, length-map (votesOf x) (λ v. v .vote .change), u .2, c .voters-test .left)))),
-      λ i e. nobody-no-place _ i (length (votesOf x)) (u .3) e,
-    )
+    let u = c .before .voters .inv in
+    at-place
+    (c .before .before .before .before .before .before .args .self)
+    (c .before .voters .won)
+    (ap saidWinner (u .3)
+    ∙ sym (rw (c .before .before .before .before .num-faulty .ensures) at (u .4 ∙ voters-end sameChange (choices x) _ (c .before .voters .i) (omega (arith, length-map (votesOf x) (λ v. v .vote .change), u .2, c .voters-test .left)))))
 
 returns-2 : tie.Need-returns-2 Inv-loop μ-loop Inv-voters μ-voters
-unfolding computeWinner
+unfolding winnerAt
 returns-2 c =
     let x = c .before .before .before .before .before .before .before .before .before .before .before .before .args .self .committed in
     let i = c .before .before .before .before .before .before .before .voters .i in
@@ -122,11 +132,11 @@ returns-2 c =
     let v = c .before .before .before .before .loop .inv in
     let l : i < length (choices x) = omega (arith, length-map (votesOf x) (λ v. v .vote .change), u .2, c .before .before .before .before .before .before .voters-test .taken) in
     let m : j < length (choices x) = omega (arith, c .before .before .before .loop-test .taken) in
-    let k = count-yes sameChange (choices x) _ _ j m (agreed (c .before .before) ∙ c .before .if1 .taken) in (
-      ap found (sym (c .before .before .before .before .before .change-of .ensures))
-          ∙ sym (rw (c .before .before .before .before .before .before .before .before .before .before .num-faulty .ensures) at (u .4 ∙ voter-wins sameChange (choices x) _ i _ _ (chosen (c .before .before .before .before .before)) l j (c .before .before .before .loop-test .taken) (omega (arith, k, v .1, c .if2 .taken)))),
-      λ w e. told-place i w (length (votesOf x)) e (omega (arith, length-map (votesOf x) (λ v. v .vote .change), l)),
-    )
+    let k = count-yes sameChange (choices x) _ _ j m (agreed (c .before .before) ∙ c .before .if1 .taken) in
+    at-place
+    (c .before .before .before .before .before .before .before .before .before .before .before .before .args .self)
+    (Voter i)
+    (sym (rw (c .before .before .before .before .before .before .before .before .before .before .num-faulty .ensures) at (u .4 ∙ voter-wins sameChange (choices x) _ i _ _ (chosen (c .before .before .before .before .before)) l j (c .before .before .before .loop-test .taken) (omega (arith, k, v .1, c .if2 .taken)))))
 
 pub compute-winner-spec : {M : Type 1} → statement M
 compute-winner-spec =

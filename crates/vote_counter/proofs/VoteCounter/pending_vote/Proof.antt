@@ -1,3 +1,4 @@
+use mathlib.Core.Bool.{true≢false}
 use mathlib.Core.Path.{_≡_, refl, sym, _∙_}
 use native.Mathlib.Omega.{arith}
 use Prim.Native.Nat.{_-_, _≤_}
@@ -57,7 +58,7 @@ returns c =
     let i = c .before .before .before .before .before .loop .i in
     let p = c .before .before .before .before .before .before .before .before .before .args .self .pending in
     let cs = c .before .before .before .before .before .before .before .before .before .args .self .committed in
-    sym (v .3 ∙ turn-found (votesOf cs) (votesOf p) _ i _ (view-more signedOf (p .votes) (p .count) i (omega (arith, v .2, c .before .before .before .before .loop-test .taken)) _) (sym (c .before .before .is-obsolete .ensures) ∙ c .before .if1 .left) (c .if2 .taken))
+    (sym (v .3 ∙ turn-found (votesOf cs) (votesOf p) _ i _ (view-more signedOf (p .votes) (p .count) i (omega (arith, v .2, c .before .before .before .before .loop-test .taken)) _) (sym (c .before .before .is-obsolete .ensures) ∙ c .before .if1 .left) (c .if2 .taken)), λ e. absurd (true≢false e))
 
 sub-left : tie.Need-sub-left Inv-loop μ-loop
 sub-left c = search needs
@@ -86,7 +87,7 @@ returns-2 c =
     let i = c .before .before .loop .i in
     let p = c .before .before .before .before .before .before .args .self .pending in
     let cs = c .before .before .before .before .before .before .args .self .committed in
-    sym (v .3 ∙ turn-none (votesOf cs) (votesOf p) _ i (omega (arith, v .2, c .before .loop-test .left)))
+    (sym (v .3 ∙ turn-none (votesOf cs) (votesOf p) _ i (omega (arith, v .2, c .before .loop-test .left))), λ e. rw (c .empty .ensures))
 
 pub pending-vote-spec : {M : Type 1} → statement M
 pending-vote-spec =

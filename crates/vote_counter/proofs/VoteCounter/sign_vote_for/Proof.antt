@@ -21,14 +21,14 @@ sign-with-requires c κs = search needs
 
 returns : tie.Need-returns
 unfolding signVoteFor
-returns c = rw (sym (c .before .before .before .num-of .ensures) ∙ ap saidNum (c .before .enum-told .given .1)) (c .sign-with .ensures)
+returns c = (rw (sym (c .before .before .before .num-of .ensures) ∙ ap saidNum (c .before .enum-told .given .1)) (c .sign-with .ensures .0), c .sign-with .ensures .1)
 
 empty-requires : tie.Need-empty-requires
 empty-requires c κs = search needs
 
 returns-2 : tie.Need-returns-2
 unfolding signVoteFor
-returns-2 c = rw (sym (c .before .before .before .before .before .num-of .ensures) ∙ ap saidNum (c .before .before .before .num .given .1), eq-eqb (c .before .before .before .num .given .0 .0) 18446744073709551615 (omega (arith, c .before .if1 .taken)))
+returns-2 c = (rw (sym (c .before .before .before .before .before .num-of .ensures) ∙ ap saidNum (c .before .before .before .num .given .1), eq-eqb (c .before .before .before .num .given .0 .0) 18446744073709551615 (omega (arith, c .before .if1 .taken))), λ n e. rw (c .empty .ensures, e))
 
 add-sign-with : tie.Need-add-sign-with
 add-sign-with c = search needs
@@ -38,7 +38,7 @@ sign-with-requires-2 c κs = search needs
 
 returns-3 : tie.Need-returns-3
 unfolding signVoteFor
-returns-3 c = rw (sym (c .before .before .before .before .before .num-of .ensures) ∙ ap saidNum (c .before .before .before .num .given .1), ne-eqb (c .before .before .before .num .given .0 .0) 18446744073709551615 (c .before .if1 .left)) (c .sign-with2 .ensures)
+returns-3 c = (rw (sym (c .before .before .before .before .before .num-of .ensures) ∙ ap saidNum (c .before .before .before .num .given .1), ne-eqb (c .before .before .before .num .given .0 .0) 18446744073709551615 (c .before .if1 .left)) (c .sign-with2 .ensures .0), c .sign-with2 .ensures .1)
 
 pub sign-vote-for-spec : {M : Type 1} → statement M
 sign-vote-for-spec =

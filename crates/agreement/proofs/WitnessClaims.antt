@@ -1,0 +1,109 @@
+-- The hypotheses of the claims hold of the witnesses, so the claims say something of them.
+-- Assumes nothing.
+use Prim.Native.Nat.{ℕ, _≤_}
+use mathlib.Core.Path.{_≡_, refl, ap, subst}
+use mathlib.Core.List.{List, [], _∷_}
+use mathlib.Core.Bool.{false, true}
+use lib.ListN.{length}
+use native.Mathlib.Omega.{arith}
+use Rattle.bincode.specs.Read.{value}
+use Rattle.bincode.specs.Numbers.{fixed}
+use Rattle.bincode.specs.Sizes.{base}
+use Rattle.bincode.specs.Stands.{All}
+use Rattle.bincode.proofs.ReadLaws.{same-value}
+use Rattle.pub_key_map.specs.PubKeyMap.{mapBytes}
+use Rattle.params.specs.Params.{paramsBytes}
+use Rattle.due.specs.declared.DueKind.the-variants.{Part}
+use Rattle.internal_contrib.specs.InternalContrib.{ContribOf, readBatch, batchBytes}
+use Rattle.internal_contrib.specs.Places.{messageCount}
+use Rattle.dynamic_honey_badger.specs.State.{eraOf, candidateNodes}
+use Rattle.process_output.specs.Process.{ProcessedOf, processed}
+use Rattle.agreement.specs.Calls.{batch-call, run, batchCalls}
+use Rattle.agreement.specs.Hypotheses.{FullBatch, Full, beganEra, leftOlder, OfBytes, StartBytes}
+use Rattle.agreement.specs.Claim.{Agree}
+use Rattle.agreement.specs.Formed.{Formed, CallFits, StartFits}
+use Rattle.agreement.specs.Witness.{alone, params, giverStart, adding, completing, batchOf, addBatch, completeBatch, callsBefore, callsAfter, everyCall, opened, added, ended, addReport, joinerBatch, planBuffer, keySet, planLength, joinerOpened, observerOpened, observerCalls}
+use Rattle.agreement.proofs.Claims.{reached-states-formed, one-start-agrees, joiner-agrees}
+use Rattle.agreement.proofs.WitnessReading.{bytes-are, map-bytes, params-bytes, asked-bytes, part-due-bytes, part-sent-bytes, vote-sent-bytes, adding-bytes, adding-read, completing-bytes, completing-read}
+use Rattle.agreement.proofs.WitnessSteps.{starts, observer-starts}
+use Rattle.agreement.proofs.WitnessCalls.{before-leads, every-call-accepted}
+use Rattle.agreement.proofs.WitnessJoiner.{reported, plan-answered, plan-joined}
+
+-- a batch that is read, with as many verdicts as it has key messages, none over 3
+full-batch : (inner : ℕ) (c : ContribOf) (verdicts : List ℕ) (n : ℕ) → readBatch base (batchBytes (c ∷ [])) ≡ value (c ∷ []) n
+    → length verdicts ≡ messageCount (c ∷ []) → All (λ (v : ℕ). v ≤ 3) verdicts → FullBatch base (batchOf inner c verdicts)
+full-batch inner c verdicts n r q h =
+    record {
+      faults-lent = omega arith;
+      due-lent = omega arith;
+      verdicts-formed = λ cs d e. subst (λ (x : List ContribOf). (length verdicts ≡ messageCount x) × All (λ (v : ℕ). v ≤ 3) verdicts) (same-value _ r e) (q, h);
+    }
+
+pub add-full : FullBatch base addBatch
+unfolding messageCount
+add-full = full-batch 3 adding [] _ adding-read refl tt
+
+pub complete-full : FullBatch base completeBatch
+unfolding messageCount
+complete-full = full-batch 2 completing (0 ∷ 0 ∷ 0 ∷ 0 ∷ []) _ completing-read refl (omega arith, (omega arith, (omega arith, (omega arith, tt))))
+
+pub joiner-full : FullBatch base joinerBatch
+unfolding messageCount
+joiner-full = full-batch 2 completing (0 ∷ 0 ∷ 3 ∷ 0 ∷ []) _ completing-read refl (omega arith, (omega arith, (omega arith, (omega arith, tt))))
+
+-- the hypotheses of the claims hold of start and calls
+pub start-fits : StartFits giverStart
+start-fits = (omega arith, omega arith, omega arith, map-bytes, params-bytes)
+
+pub start-bytes : StartBytes giverStart
+start-bytes = (map-bytes, params-bytes)
+
+pub add-fits : CallFits (batch-call addBatch)
+add-fits = (omega arith, adding-bytes, bytes-are [] refl)
+
+pub complete-fits : CallFits (batch-call completeBatch)
+complete-fits = (omega arith, completing-bytes, bytes-are (0 ∷ 0 ∷ 0 ∷ 0 ∷ []) refl)
+
+pub calls-fit : All CallFits everyCall
+calls-fit = (asked-bytes, ((omega arith, omega arith), (add-fits, (part-due-bytes, ((omega arith, part-sent-bytes), (complete-fits, (omega arith, ((omega arith, vote-sent-bytes), tt))))))))
+
+pub before-bytes : OfBytes callsBefore
+unfolding batchCalls
+before-bytes = tt
+
+pub after-full : Full base callsAfter
+unfolding batchCalls
+after-full = (complete-full, tt)
+
+pub every-call-full : Full base everyCall
+unfolding batchCalls
+every-call-full = (add-full, (complete-full, tt))
+
+-- the batch that the joiner's plan is of began a new era, and left no older key generation
+pub began : beganEra (addReport .batch) (eraOf (processed base (run base opened callsBefore) addBatch .state)) ≡ true
+unfolding beganEra
+began = ap (λ (x : ProcessedOf). beganEra (addReport .batch) (eraOf (x .state))) reported
+
+pub left-none : leftOlder (candidateNodes (run base opened callsBefore .key-gen)) (candidateNodes (processed base (run base opened callsBefore) addBatch .state .key-gen)) ≡ false
+unfolding leftOlder
+left-none = λ i. leftOlder (candidateNodes (before-leads .1 i .key-gen)) (candidateNodes (reported i .state .key-gen))
+
+-- the claims hold of it: the state at the end is formed
+pub ended-formed : Formed base ended
+ended-formed = subst (Formed base) (every-call-accepted .1) (reached-states-formed giverStart start-fits opened starts everyCall calls-fit)
+
+-- the giver and an observer with the same start, given the same batches, agree
+pub giver-and-observer : Agree base opened everyCall observerOpened observerCalls
+unfolding batchCalls
+giver-and-observer =
+    one-start-agrees 1 11 3 13 5 (mapBytes fixed alone) (paramsBytes fixed params) opened observerOpened starts observer-starts everyCall observerCalls every-call-full
+    (add-full, (joiner-full, tt)) refl
+
+-- and so do giver and joiner, over the batches behind the plan's
+pub giver-and-joiner : Agree base added callsAfter joinerOpened (batch-call joinerBatch ∷ [])
+unfolding batchCalls
+giver-and-joiner =
+    subst (λ (x : ProcessedOf). Agree base (x .state) callsAfter joinerOpened (batch-call joinerBatch ∷ [])) reported
+    (joiner-agrees giverStart start-bytes opened starts callsBefore before-bytes addBatch adding-bytes addReport (ap (λ (x : ProcessedOf). x .answer) reported) began left-none keySet (omega arith)
+    planBuffer planLength plan-answered (base .due) 2 12 (record { state = joinerOpened; due = record { kind = Part; era = 9 } ∷ [] }) plan-joined
+    callsAfter (batch-call joinerBatch ∷ []) after-full (joiner-full, tt) refl)

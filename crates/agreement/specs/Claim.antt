@@ -1,0 +1,47 @@
+-- The claims of demand 3: what is said of a node's whole list of calls, and of two nodes.
+use Prim.Native.Nat.{ℕ}
+use mathlib.Core.Path.{_≡_}
+use mathlib.Core.List.{List}
+use Rattle.lists.specs.Lists.{Found, found, nothing}
+use Rattle.bincode.specs.Read.{Read, value, refuse, whole}
+use Rattle.bincode.specs.Numbers.{fixed}
+use Rattle.bincode.specs.Sizes.{Sizes}
+use Rattle.pub_key_map.specs.declared.Node.{Node}
+use Rattle.pub_key_map.specs.PubKeyMap.{readMap}
+use Rattle.params.specs.declared.Params.{Params}
+use Rattle.params.specs.Params.{readParams}
+use Rattle.join_plan.specs.JoinPlan.{PlanOf, readPlan}
+use Rattle.dynamic_honey_badger.specs.State.{StateOf}
+use Rattle.reference.specs.Reference.{RefState, openRef}
+use Rattle.reference.specs.Step.{refRun, refAnswers}
+use Rattle.agreement.specs.Shared.{refOf, planRef}
+use Rattle.agreement.specs.Calls.{Call, run, sharedBatches, answers, Start, new-start, join-start}
+
+-- 01, "What two boxes share": the reference state that a start opens, by map, era and parameters, a joiner's by its plan. Own id, own key and lent places do not
+-- occur. Nothing, where the bytes cannot be read.
+abbrev pub openedBy : ℕ → Read (List Node) → Read Params → Found RefState
+openedBy era (value ns c) (value p d) = found (openRef era ns p)
+openedBy era (value ns c) (refuse n) = nothing
+openedBy era (refuse n) x = nothing
+
+abbrev pub plannedBy : Read PlanOf → Found RefState
+plannedBy (value p c) = found (planRef p)
+plannedBy (refuse n) = nothing
+
+unfoldable pub refStart : Sizes → Start → Found RefState
+refStart z (new-start id key era map params) = openedBy era (whole (readMap fixed z map) map) (whole (readParams fixed params) params)
+refStart z (join-start places id key plan) = plannedBy (whole (readPlan fixed z plan) plan)
+
+-- from state s on, a list of calls follows the reference state r: after it the node holds what r holds after the shared batches, and it has answered them as r does
+abbrev pub FollowsFrom : Sizes → RefState → StateOf → List Call → Type 0
+FollowsFrom z r s cs = (refOf (run z s cs) ≡ refRun z r (sharedBatches z s cs)) × (answers z s cs ≡ refAnswers z r (sharedBatches z s cs))
+
+-- the claim of one node: it follows the reference state that its start opens
+pub record FollowsStart (z : Sizes) (start : Start) (s : StateOf) (cs : List Call) : Type 0 where
+  pub reference : RefState
+  pub opens : refStart z start ≡ found reference
+  pub follows : FollowsFrom z reference s cs
+
+-- the claim of two nodes and their lists of calls: the same shared part after them, and the same answers
+abbrev pub Agree : Sizes → StateOf → List Call → StateOf → List Call → Type 0
+Agree z s cs t ds = (refOf (run z s cs) ≡ refOf (run z t ds)) × (answers z s cs ≡ answers z t ds)

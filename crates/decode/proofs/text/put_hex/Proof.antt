@@ -1,0 +1,83 @@
+use borrow.Author.Needs.{needs}
+use Prim.Native.Nat.{_≤_, _-_}
+use mathlib.Core.Path.{_≡_}
+use lib.ListN.{length}
+use Rattle.decode.proofs.text.put_hex.Statement.{statement}
+use Rattle.decode.proofs.text.put_hex.Tie as tie
+
+abbrev Inv-loop : tie.InvT-loop
+Inv-loop out₀ at s m₀ i₀ out m i = (i ≤ length s) × (length out ≡ length out₀)
+
+abbrev μ-loop : tie.MeasureT-loop
+μ-loop out₀ at s m₀ i₀ out m i = length s - i
+
+slice-aggregate-put : tie.Need-slice-aggregate-put Inv-loop μ-loop
+slice-aggregate-put c = search needs
+
+put-requires : tie.Need-put-requires Inv-loop μ-loop
+put-requires c κs = search needs
+
+same-length : tie.Need-same-length Inv-loop μ-loop
+same-length c = search needs
+
+returns : tie.Need-returns Inv-loop μ-loop
+returns c = search needs
+
+loop-holds : tie.Need-loop-holds Inv-loop μ-loop
+loop-holds c = search needs
+
+shared-slice-read-letter : tie.Need-shared-slice-read-letter Inv-loop μ-loop
+shared-slice-read-letter c = search needs
+
+letter-requires : tie.Need-letter-requires Inv-loop μ-loop
+letter-requires c κs = search needs
+
+shared-slice-read-letter-2 : tie.Need-shared-slice-read-letter-2 Inv-loop μ-loop
+shared-slice-read-letter-2 c = search needs
+
+letter-requires-2 : tie.Need-letter-requires-2 Inv-loop μ-loop
+letter-requires-2 c κs = search needs
+
+slice-aggregate-put-2 : tie.Need-slice-aggregate-put-2 Inv-loop μ-loop
+slice-aggregate-put-2 c = search needs
+
+put-requires-2 : tie.Need-put-requires-2 Inv-loop μ-loop
+put-requires-2 c κs = search needs
+
+add-i : tie.Need-add-i Inv-loop μ-loop
+add-i c = search needs
+
+loop-less : tie.Need-loop-less Inv-loop μ-loop
+loop-less c = search needs
+
+loop-again : tie.Need-loop-again Inv-loop μ-loop
+loop-again c = search needs
+
+same-length-2 : tie.Need-same-length-2 Inv-loop μ-loop
+same-length-2 c = search needs
+
+returns-2 : tie.Need-returns-2 Inv-loop μ-loop
+returns-2 c = search needs
+
+pub put-hex-spec : {M : Type 1} → statement M
+put-hex-spec =
+    tie.close
+    (tie.spec
+    Inv-loop
+    μ-loop
+    slice-aggregate-put
+    put-requires
+    same-length
+    returns
+    loop-holds
+    shared-slice-read-letter
+    letter-requires
+    shared-slice-read-letter-2
+    letter-requires-2
+    slice-aggregate-put-2
+    put-requires-2
+    add-i
+    loop-less
+    loop-again
+    same-length-2
+    returns-2)

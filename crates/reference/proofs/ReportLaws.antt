@@ -1,0 +1,88 @@
+-- "What two boxes share": the start, reading, refusals; and the report of every batch that is reported.
+-- Assumes nothing.
+use Prim.Native.Nat.{ℕ, _+_}
+use mathlib.Core.Path.{_≡_, refl, ap}
+use mathlib.Core.List.{List}
+use mathlib.Core.Bool.{Bool, true, false, cond}
+use native.Mathlib.Omega.{arith}
+use Rattle.lists.specs.Lists.{nothing, lookup}
+use Rattle.bincode.specs.Read.{Read, value, refuse}
+use Rattle.bincode.specs.Outcome.{Outcome, done, refused}
+use Rattle.bincode.specs.Sizes.{Sizes}
+use Rattle.pub_key_map.specs.declared.Node.{Node}
+use Rattle.params.specs.declared.Params.{Params}
+use Rattle.votes.specs.Votes.{SignedVoteOf}
+use Rattle.internal_contrib.specs.InternalContrib.{ContribOf, readBatch}
+use Rattle.reference.specs.Reference.{RefState, openRef}
+use Rattle.reference.specs.Step.{refContribs, RefReport, RefAnswer, deniedRef, refRow5, refRow6, refRow7, refSteps, refBatch, refRead, SharedBatch, refStep}
+
+-- "It opens with no votes and no candidate map", at the start's era, map and parameters
+module _ (era : ℕ) (ns : List Node) (p : Params) where
+  pub opens-without-votes : (voter : ℕ) → lookup (λ (v : SignedVoteOf). v .voter) (openRef era ns p .votes) voter ≡ nothing
+  unfolding lookup
+  opens-without-votes voter = refl
+
+  pub opens-without-candidate : openRef era ns p .candidate ≡ nothing
+  opens-without-candidate = refl
+
+  pub opens-at-start : (openRef era ns p .era ≡ era) × (openRef era ns p .nodes ≡ ns) × (openRef era ns p .params ≡ p)
+  opens-at-start = (refl, refl, refl)
+
+-- a batch that reading refuses is refused with that number; one that is read is taken with its inner epoch
+module _ (z : Sizes) (s : RefState) (b : SharedBatch) where
+  pub reading-refuses : (n : ℕ) → readBatch z (b .bytes) ≡ refuse n → refStep z s b ≡ record { state = s; answer = refused n }
+  unfolding refStep
+  reading-refuses n e = rw e
+
+  pub reading-hands-on : (cs : List ContribOf) (at : ℕ) → readBatch z (b .bytes) ≡ value cs at → refStep z s b ≡ refBatch z s (b .inner) cs
+  unfolding refStep
+  reading-hands-on cs at e = rw e
+
+module _ (z : Sizes) (s : RefState) (inner : ℕ) (cs : List ContribOf) where
+  -- refused and unchanged, or the steps
+  tests : (P : RefAnswer → Type 0) → ((n : ℕ) → P (record { state = s; answer = refused n })) → P (refSteps z s (s .era + inner) cs) → P (refBatch z s inner cs)
+  unfolding refBatch
+  tests P denied taken = go (refRow5 (s .era + inner)) (refRow6 s cs) (refRow7 z s cs)
+    where
+      go : (a b c : Bool) → P (cond a (deniedRef s 5) (cond b (deniedRef s 6) (cond c (deniedRef s 7) (refSteps z s (s .era + inner) cs))))
+      go true b c = denied 5
+      go false true c = denied 6
+      go false false true = denied 7
+      go false false false = taken
+
+  pub batch-refused : (n : ℕ) → refBatch z s inner cs .answer ≡ refused n → refBatch z s inner cs .state ≡ s
+  unfolding refSteps
+  batch-refused n = tests (λ a. a .answer ≡ refused n → a .state ≡ s) (λ k e. refl) (λ e. absurd (let q : _≡_ {A = ℕ} 0 1 = cc in let w : ⊥ = omega arith in w))
+
+  -- "The report is epoch, era of the batch, change, map and parameters": epoch = era + inner epoch (step 1), the era that it met, the map and the parameters that it left;
+  -- beside it the faults in order of arising
+  pub report-says : (r : RefReport) → refBatch z s inner cs .answer ≡ done r
+      → (r .batch .epoch ≡ s .era + inner) × (r .batch .era ≡ s .era) × (r .batch .keys ≡ refBatch z s inner cs .state .nodes)
+      × (r .batch .params ≡ refBatch z s inner cs .state .params) × (r .faults ≡ refContribs z s cs .faults)
+  unfolding refSteps
+  report-says r =
+      tests
+      (λ a. a .answer ≡ done r
+      → (r .batch .epoch ≡ s .era + inner) × (r .batch .era ≡ s .era) × (r .batch .keys ≡ a .state .nodes) × (r .batch .params ≡ a .state .params) × (r .faults ≡ refContribs z s cs .faults))
+      (λ k e. absurd (let q : _≡_ {A = ℕ} 0 1 = cc in let w : ⊥ = omega arith in w))
+      (says _)
+    where
+      says : (x : RefReport) → _≡_ {A = Outcome RefReport} (done x) (done r)
+          → (r .batch .epoch ≡ x .batch .epoch) × (r .batch .era ≡ x .batch .era) × (r .batch .keys ≡ x .batch .keys) × (r .batch .params ≡ x .batch .params) × (r .faults ≡ x .faults)
+      says x e =
+          let q : r ≡ x = cc in (
+            ap (λ (y : RefReport). y .batch .epoch) q,
+            ap (λ (y : RefReport). y .batch .era) q,
+            ap (λ (y : RefReport). y .batch .keys) q,
+            ap (λ (y : RefReport). y .batch .params) q,
+            ap (λ (y : RefReport). y .faults) q,
+          )
+
+-- "a refusal leaves it as it was"
+pub refusal-leaves : (z : Sizes) (s : RefState) (b : SharedBatch) (n : ℕ) → refStep z s b .answer ≡ refused n → refStep z s b .state ≡ s
+unfolding refStep
+refusal-leaves z s b n = go (readBatch z (b .bytes))
+  where
+    go : (r : Read (List ContribOf)) → refRead z s (b .inner) r .answer ≡ refused n → refRead z s (b .inner) r .state ≡ s
+    go (value cs at) = batch-refused z s (b .inner) cs n
+    go (refuse k) = λ e. refl
