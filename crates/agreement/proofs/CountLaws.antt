@@ -22,7 +22,7 @@ use Rattle.key_gen_state.specs.KeyGenState.{KeyGenStateOf, readyState}
 use Rattle.internal_contrib.specs.InternalContrib.{ContribOf, readBatch}
 use Rattle.dynamic_honey_badger.specs.Asked.{row5}
 use Rattle.dynamic_honey_badger.specs.State.{StateOf, eraOf, nodesIn, newEra, keyGenFor, candidateNodes}
-use Rattle.commit.specs.Steps.{WorkOf, oweTo, committed}
+use Rattle.steps.specs.Steps.{WorkOf, oweTo, committed}
 use Rattle.decision.specs.Decision.{Decided, decidedAs, completedBy, isCandidate, mapWins, scheduleWins, electedBy, decide}
 use Rattle.process_output.specs.Refusals.{batchRow1, batchRow4, batchRow6, batchRow7}
 use Rattle.process_output.specs.Process.{BatchCall, ReportOf, ProcessedOf, denied, finished, processedContribs, processedRead, processed}

@@ -18,7 +18,7 @@ use Rattle.key_gen_message.specs.KeyGenMessage.{SignedKeyGenMsgOf}
 use Rattle.internal_contrib.specs.InternalContrib.{ContribOf}
 use Rattle.dynamic_honey_badger.specs.Asked.{row5}
 use Rattle.dynamic_honey_badger.specs.State.{StateOf, nodesIn, newEra, keyGenFor, partDue, candidateNodes}
-use Rattle.commit.specs.Steps.{committed}
+use Rattle.steps.specs.Steps.{committed}
 use Rattle.decision.specs.Decision.{Decided, decidedAs, completedBy, isCandidate, mapWins, scheduleWins, electedBy, decide, isEmptyMap, emptyWins}
 use Rattle.process_output.specs.Refusals.{some, isOutside, isStray, strayIn, batchRow6, batchRow7}
 use Rattle.reference.specs.Reference.{RefState}

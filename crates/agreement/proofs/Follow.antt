@@ -17,7 +17,7 @@ use Rattle.dynamic_honey_badger.specs.Asked.{row5}
 use Rattle.dynamic_honey_badger.specs.State.{StateOf, eraOf}
 use Rattle.dynamic_honey_badger.specs.OwnVotes.{voteForBytes, voteToAdd, voteToRemove}
 use Rattle.dynamic_honey_badger.specs.Received.{received, returned}
-use Rattle.commit.specs.Steps.{WorkOf, committed}
+use Rattle.steps.specs.Steps.{WorkOf, committed}
 use Rattle.process_output.specs.Refusals.{batchRow1, batchRow4, batchRow6, batchRow7}
 use Rattle.process_output.specs.Process.{BatchCall, ProcessedOf, denied, finished, processedContribs, processedRead, processed}
 use Rattle.reference.specs.Reference.{RefState}

@@ -36,8 +36,8 @@ use Rattle.internal_contrib.proofs.ContribCodes.{batch-one-encoding}
 use Rattle.dynamic_honey_badger.specs.Asked.{row5}
 use Rattle.dynamic_honey_badger.specs.State.{StateOf, eraOf, nodesIn, withKeyGen, withStore, withParams, candidateNodes, validUnder, newEra, freshKeyGen, keyGenFor, partDue}
 use Rattle.dynamic_honey_badger.specs.Received.{quiet, fault}
-use Rattle.commit.specs.Steps as steps
-use Rattle.commit.specs.Steps.{WorkOf, withState, votedAs as countedAs, committedVote, Told, owed, blamed-proposer, blamed-signer, MessageDoneOf, doneAs, byKeyGen, messageDone, applied, firstVerdict, judged, committedMessage, committedContrib, begun, committed}
+use Rattle.steps.specs.Steps as steps
+use Rattle.steps.specs.Steps.{WorkOf, withState, votedAs as countedAs, committedVote, Told, owed, blamed-proposer, blamed-signer, MessageDoneOf, doneAs, byKeyGen, messageDone, applied, firstVerdict, judged, committedMessage, committedContrib, begun, committed}
 use Rattle.decision.specs.Decision.{Decided, decidedAs, completedBy, isCandidate, mapWins, withSchedule, scheduleWins, electedBy, decide, isEmptyMap, emptyWins}
 use Rattle.process_output.specs.Refusals.{batchRow1, batchRow4, batchRow6, batchRow7}
 use Rattle.process_output.specs.Process.{BatchCall, ProcessedOf, denied, finished, processedContribs, processedRead, processed}

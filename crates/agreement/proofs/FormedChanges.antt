@@ -20,7 +20,7 @@ use Rattle.key_gen_state.specs.KeyGenState.{KeyGenStateOf}
 use Rattle.key_gen_message.specs.KeyGenMessage.{SignedKeyGenMsgOf, SignedOk}
 use Rattle.message_store.specs.MessageStore.{isRecent, fromEra}
 use Rattle.dynamic_honey_badger.specs.State.{StateOf, eraOf, nodesIn, withCounter, withKeyGen, withStore, withParams, newEra}
-use Rattle.commit.specs.Steps as steps
+use Rattle.steps.specs.Steps as steps
 use Rattle.agreement.specs.Formed.{MapFormed, VotesFormed, RunningFormed, Formed}
 use Rattle.agreement.proofs.AllLaws.{all-then, filter-none}
 use Rattle.agreement.proofs.FormedParts.{no-votes}

@@ -26,7 +26,7 @@ use Rattle.key_gen_state.specs.KeyGenState.{KeyGenStateOf, raised, countedBy, s
 use Rattle.key_gen_state.proofs.CountLaws.{raised-le}
 use Rattle.key_gen_message.specs.KeyGenMessage.{KeyGenMessageOf, part, ack, MessageOk}
 use Rattle.dynamic_honey_badger.specs.State.{freshKeyGen}
-use Rattle.commit.specs.Steps.{handledBy}
+use Rattle.steps.specs.Steps.{handledBy}
 use Rattle.agreement.specs.Formed.{MapFormed, PartFormed, KeyGenFormed}
 use Rattle.agreement.proofs.KeptLaws.{all-insert}
 use Rattle.agreement.proofs.AllLaws.{all-lookup, all-then, all-set, all-replicate, all-getD}

@@ -26,7 +26,7 @@ use Rattle.join_plan.specs.JoinPlan.{PlanOf, PlanOk}
 use Rattle.join_plan.proofs.PlanCodes.{plan-one-encoding}
 use Rattle.joining.specs.Starting.{reading, isEmpty, keyRow2, emptyProgress, joinRow8, joinChecked, startMap, startChecked}
 use Rattle.dynamic_honey_badger.specs.State.{StateOf, freshKeyGen, keyGenFor, opened, startedFrom, started, joinedBy, joinedWith, joinedFrom, joined}
-use Rattle.commit.specs.Steps as steps
+use Rattle.steps.specs.Steps as steps
 use Rattle.agreement.specs.Calls.{Call, batch-call, vote-call, add-call, remove-call, message-call, due-call, after, run, Start, new-start, join-start, joinedState, startState}
 use Rattle.agreement.specs.Formed.{MapFormed, Formed, CallFits, StartFits}
 use Rattle.agreement.proofs.Agree.{done-refused, accepted-plan}

@@ -34,7 +34,7 @@ use Rattle.node_change.specs.NodeChange.{row13, withNode, withoutNode}
 use Rattle.dynamic_honey_badger.specs.State.{StateOf, eraOf, nodesIn, withKeyGen, withStore, isValidator, validSignature}
 use Rattle.dynamic_honey_badger.specs.OwnVotes.{VotedOf, votedAs, signedIn, voteFor, voteForRead, voteForBytes, voteToAdd, voteToRemove}
 use Rattle.dynamic_honey_badger.specs.Received.{HandledOf, handledAs, quiet, fault, votedIn, storedIn, keyGenIn, receivedKeyGen, messageEra, signedBy, receivedNow, receivedContent, receivedRead, received, readDueItem, returnedKeyGen, returnedRead, returned}
-use Rattle.commit.specs.Steps as steps
+use Rattle.steps.specs.Steps as steps
 use Rattle.agreement.specs.Formed.{KeyGenFormed, RunningFormed, Formed}
 use Rattle.agreement.proofs.Agree.{done-refused}
 use Rattle.agreement.proofs.AllLaws.{all-lookup, all-more}

@@ -18,7 +18,7 @@ use Rattle.internal_contrib.specs.InternalContrib.{ContribOf, readBatch}
 use Rattle.internal_contrib.specs.Places.{messageCount}
 use Rattle.dynamic_honey_badger.specs.Asked.{row5}
 use Rattle.dynamic_honey_badger.specs.State.{StateOf, eraOf}
-use Rattle.commit.specs.Steps.{committed}
+use Rattle.steps.specs.Steps.{committed}
 use Rattle.process_output.specs.Refusals.{some, batchRow1, noVerdict, batchRow4, batchRow6, batchRow7}
 use Rattle.process_output.specs.Process.{BatchCall, ProcessedOf, denied, finished, processedContribs, processedRead, processed}
 use Rattle.reference.specs.Step.{SharedBatch}

@@ -32,7 +32,7 @@ use Rattle.internal_contrib.specs.InternalContrib.{ContribOf}
 use Rattle.dynamic_honey_badger.specs.State as state
 use Rattle.dynamic_honey_badger.specs.State.{StateOf, eraOf, nodesIn, withKeyGen, withStore, candidateNodes, validUnder}
 use Rattle.due.specs.declared.DueKind.the-variants.{Ack}
-use Rattle.commit.specs.Steps.{WorkOf, withState, blame, votedAs, committedVote, Told, quiet, owed, blamed-proposer, blamed-signer, MessageDoneOf, toldBy, doneAs, handledBy, unexpected, byKeyGen, messageDone, applied, settled, firstVerdict, judged, committedMessage, committedContrib, begun, committed}
+use Rattle.steps.specs.Steps.{WorkOf, withState, blame, votedAs, committedVote, Told, quiet, owed, blamed-proposer, blamed-signer, MessageDoneOf, toldBy, doneAs, handledBy, unexpected, byKeyGen, messageDone, applied, settled, firstVerdict, judged, committedMessage, committedContrib, begun, committed}
 use Rattle.reference.specs.Step as ref
 use Rattle.reference.specs.Step.{RefWork, blamed, isKeyOf, isOld, byVoter, votesNow, refVote, byIndex, candidateNow, refPartFound, isIn, refAckFound, refTracked, refHandled, isSigned, refMessage, refContrib, refContribs}
 use Rattle.agreement.specs.Shared.{partRef, candidateRef, refOf, isOwnKind, isShared, sharedFaults}

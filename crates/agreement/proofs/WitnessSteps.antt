@@ -31,7 +31,7 @@ use Rattle.dynamic_honey_badger.specs.Asked.{row5}
 use Rattle.dynamic_honey_badger.specs.State.{validUnder, newEra, keyGenFor, started}
 use Rattle.dynamic_honey_badger.specs.OwnVotes.{voteFor, voteForBytes, voteToAdd, voteToRemove}
 use Rattle.dynamic_honey_badger.specs.Received.{quiet, receivedKeyGen, receivedContent, received, readDueItem, returnedKeyGen, returned}
-use Rattle.commit.specs.Steps.{committedVote, messageDone, committedMessage, committedContrib, committed}
+use Rattle.steps.specs.Steps.{committedVote, messageDone, committedMessage, committedContrib, committed}
 use Rattle.decision.specs.Decision.{mapWins, decide, emptyWins}
 use Rattle.process_output.specs.Refusals.{some, batchRow1, batchRow4, isStray, batchRow6, batchRow7}
 use Rattle.process_output.specs.Process.{processedContribs, processedRead, processed}

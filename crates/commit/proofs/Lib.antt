@@ -2,5 +2,3 @@ pub mod PartLaws
 pub mod ReadableLaws
 pub mod WorkLaws
 pub mod TurnLaws
-pub mod BatchLaws
-pub mod PageLaws

@@ -35,7 +35,8 @@ use Rattle.commit.specs.declared.Work.{Work}
 use Rattle.commit.specs.declared.MessageTold.{MessageTold}
 use Rattle.commit.specs.declared.MessageTold.the-variants.{BlamedProposer, BlamedSigner}
 use Rattle.commit.specs.declared.MessageDone.{MessageDone}
-use Rattle.commit.specs.Steps.{blamed-signer, unexpected, workOf, judged, votedBy, votedAs, committedVote, doneAs, toldBy, handledBy, tracked, byKeyGen, messageDone, applied, settled, committedMessage, firstVerdict, otherVerdicts, saidTold, messageDoneOf}
+use Rattle.steps.specs.Steps.{blamed-signer, unexpected, judged, votedBy, votedAs, committedVote, doneAs, toldBy, handledBy, tracked, byKeyGen, messageDone, applied, settled, committedMessage, firstVerdict, otherVerdicts}
+use Rattle.commit.specs.Work.{workOf, saidTold, messageDoneOf}
 
 -- a committed vote, by what the counter answers
 abbrev pub withVotes : Work → VoteCounter → Work

@@ -14,7 +14,7 @@ use Rattle.key_gen_message.specs.KeyGenMessage as key-gen
 use Rattle.internal_contrib.specs.declared.Contrib.{Contrib}
 use Rattle.internal_contrib.specs.InternalContrib.{ContribOf}
 use Rattle.internal_contrib.specs.Places.{placed}
-use Rattle.commit.specs.Steps.{WorkOf, firstVerdict, otherVerdicts, committedVote, committedMessage, committedContrib}
+use Rattle.steps.specs.Steps.{WorkOf, firstVerdict, otherVerdicts, committedVote, committedMessage, committedContrib}
 
 -- the next verdict stands at the place that was reached; past the last it is 0
 module _ (xs : List ℕ) (i : ℕ) where

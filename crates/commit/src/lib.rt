@@ -19,7 +19,8 @@ ghost use Rattle.internal_contrib.specs.InternalContrib.{ContribOf, readContrib
 ghost use Rattle.internal_contrib.specs.Places.{placed};
 ghost use Rattle.dynamic_honey_badger.specs.State.{stateOf};
 ghost use Rattle.commit.specs.Readable.{readableContribs};
-ghost use Rattle.commit.specs.Steps.{workOf, messageDoneOf, messageDone, byKeyGen, toldBy, saidTold, begun, blame, owe, committedVote, committedMessage, committedContrib, firstVerdict, otherVerdicts};
+ghost use Rattle.steps.specs.Steps.{messageDone, byKeyGen, toldBy, begun, blame, owe, committedVote, committedMessage, committedContrib, firstVerdict, otherVerdicts};
+ghost use Rattle.commit.specs.Work.{workOf, messageDoneOf, saidTold};
 use bincode::ReadU64;
 use bincode::Step;
 use due::DueItem;

@@ -16,7 +16,7 @@ use Rattle.due.specs.declared.DueItem.{DueItem}
 use Rattle.internal_contrib.specs.InternalContrib.{ContribOf, readBatch}
 use Rattle.dynamic_honey_badger.specs.Asked.{row5}
 use Rattle.dynamic_honey_badger.specs.State.{StateOf}
-use Rattle.commit.specs.Steps.{WorkOf, oweTo, committed}
+use Rattle.steps.specs.Steps.{WorkOf, oweTo, committed}
 use Rattle.decision.specs.Decision.{Decided, decide}
 use Rattle.process_output.specs.Refusals.{batchRow1, batchRow4, batchRow6, batchRow7}
 use Rattle.process_output.specs.Process.{BatchCall, processedContribs, processed}

@@ -28,7 +28,8 @@ use Rattle.batch.specs.Batch.{noBatch}
 use Rattle.recipe.specs.Recipe.{emptyRecipe, NoRecipeEmpty}
 use Rattle.change.specs.Change.{stateOf as progressOf}
 use Rattle.commit.specs.declared.Work.{Work}
-use Rattle.commit.specs.Steps.{WorkOf, oweTo, begun, committedContrib, committed, workOf}
+use Rattle.steps.specs.Steps.{WorkOf, oweTo, begun, committedContrib, committed}
+use Rattle.commit.specs.Work.{workOf}
 use Rattle.decision.specs.declared.Decision.{Decision}
 use Rattle.decision.specs.Decision.{decide, decidedOf, saidRecipe, emptyWins}
 use Rattle.process_output.specs.declared.BatchOutcome.{BatchOutcome}

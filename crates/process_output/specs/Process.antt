@@ -18,7 +18,7 @@ use Rattle.internal_contrib.specs.InternalContrib.{ContribOf, readBatch}
 use Rattle.dynamic_honey_badger.specs.declared.DynamicHoneyBadger.{DynamicHoneyBadger}
 use Rattle.dynamic_honey_badger.specs.Asked.{row5}
 use Rattle.dynamic_honey_badger.specs.State.{StateOf, eraOf, nodesIn, stateOf}
-use Rattle.commit.specs.Steps.{WorkOf, oweTo, committed}
+use Rattle.steps.specs.Steps.{WorkOf, oweTo, committed}
 use Rattle.decision.specs.Decision.{Decided, decide, saidRecipe}
 use Rattle.process_output.specs.Refusals.{batchRow1, batchRow4, batchRow6, batchRow7}
 use Rattle.process_output.specs.declared.BatchOutcome.{BatchOutcome}

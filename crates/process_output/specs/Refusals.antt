@@ -12,7 +12,7 @@ use Rattle.key_gen_message.specs.KeyGenMessage.{SignedKeyGenMsgOf}
 use Rattle.internal_contrib.specs.InternalContrib.{ContribOf}
 use Rattle.internal_contrib.specs.Places.{messageCount}
 use Rattle.dynamic_honey_badger.specs.State.{StateOf, eraOf, nodesIn, validUnder, candidateNodes}
-use Rattle.commit.specs.Steps.{committed}
+use Rattle.steps.specs.Steps.{committed}
 use Rattle.decision.specs.Decision.{emptyWins}
 
 -- whether a test holds of some element

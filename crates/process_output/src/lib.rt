@@ -17,7 +17,8 @@ ghost use Rattle.process_output.specs.Refusals.{some, noVerdict, isStray
 ghost use Rattle.process_output.specs.Process.{processed, processedContribs, finished, denied, processedOf, refusedWith, BatchRefusedKeeps};
 ghost use Rattle.internal_contrib.specs.Places.{messageCount};
 ghost use Rattle.recipe.specs.Recipe.{NoRecipeEmpty};
-ghost use Rattle.commit.specs.Steps.{oweTo, workOf};
+ghost use Rattle.steps.specs.Steps.{oweTo};
+ghost use Rattle.commit.specs.Work.{workOf};
 ghost use Rattle.decision.specs.Decision.{emptyWins};
 use batch::Batch;
 use bincode::ReadU64;

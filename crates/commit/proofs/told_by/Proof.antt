@@ -2,7 +2,7 @@ use borrow.Author.Needs.{needs}
 use mathlib.Core.Path.{sym, ap}
 use Rattle.key_gen.specs.KeyGen.{saidOutcome}
 use Rattle.key_gen.specs.declared.KeyOutcome.{KeyOutcome}
-use Rattle.commit.specs.Steps.{toldBy}
+use Rattle.steps.specs.Steps.{toldBy}
 use Rattle.commit.proofs.told_by.Statement.{statement}
 use Rattle.commit.proofs.told_by.Tie as tie
 

@@ -6,7 +6,7 @@ use Rattle.bincode.specs.Items.{foldl}
 use Rattle.bincode.specs.Sizes.{base}
 use Rattle.due.specs.declared.DueItem.{DueItem}
 use Rattle.due.specs.Due.{dueOf}
-use Rattle.commit.specs.Steps.{oweTo}
+use Rattle.steps.specs.Steps.{oweTo}
 use Rattle.process_output.proofs.owe_part.Statement.{statement}
 use Rattle.process_output.proofs.owe_part.Tie as tie
 

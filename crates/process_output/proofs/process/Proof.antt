@@ -8,7 +8,8 @@ use Rattle.bincode.specs.Sizes.{base}
 use Rattle.dynamic_honey_badger.specs.Asked.{nextEpoch, saidNext}
 use Rattle.dynamic_honey_badger.specs.State.{stateOf}
 use Rattle.internal_contrib.specs.InternalContrib.{ContribOf}
-use Rattle.commit.specs.Steps.{workOf, committedContrib}
+use Rattle.steps.specs.Steps.{committedContrib}
+use Rattle.commit.specs.Work.{workOf}
 use Rattle.commit.proofs.ReadableLaws.{readable-batch}
 use Rattle.process_output.proofs.ProcessLaws.{denied-as, refused-bare, epoch-refused, epoch-done, epoch-fits, row-count, row-verdict, row-epoch, row-stray, row-finished, committed-from}
 use Rattle.process_output.proofs.process.Statement.{statement}

@@ -14,7 +14,8 @@ use Rattle.bincode.proofs.ReadLaws.{map-value, map-refused}
 use Rattle.internal_contrib.specs.InternalContrib.{ContribOf, readContrib, spending, opening}
 use Rattle.internal_contrib.specs.Places.{placed, saidContrib}
 use Rattle.commit.specs.declared.Work.{Work}
-use Rattle.commit.specs.Steps.{workOf, committedContrib}
+use Rattle.steps.specs.Steps.{committedContrib}
+use Rattle.commit.specs.Work.{workOf}
 use Rattle.commit.specs.Readable.{readable}
 use Rattle.commit.proofs.PartLaws.{spent-placed}
 use Rattle.commit.proofs.ReadableLaws.{readable-more, readable-refused, readable-end, readable-uncounted, readable-counted}

@@ -3,8 +3,9 @@ use mathlib.Core.Path.{_≡_, sym, ap, _∙_}
 use denote.Ref.{now}
 use Rattle.bincode.specs.Sizes.{base}
 use Rattle.key_gen_message.specs.KeyGenMessage.{signedOf}
-use Rattle.commit.specs.Steps.{committedMessage}
-use Rattle.commit.specs.Steps.{workOf, applied, saidTold}
+use Rattle.steps.specs.Steps.{committedMessage}
+use Rattle.steps.specs.Steps.{applied}
+use Rattle.commit.specs.Work.{workOf, saidTold}
 use Rattle.commit.specs.declared.MessageTold.{MessageTold}
 use Rattle.commit.proofs.TurnLaws.{messaged, withMessage}
 use Rattle.commit.proofs.Work.commit_message.Statement.{statement}

@@ -7,7 +7,8 @@ use Rattle.bincode.specs.Items.{plain, stay}
 use Rattle.bincode.specs.Sizes.{base}
 use Rattle.key_gen_message.specs.KeyGenMessage.{readSignedKeyGenMsg, signedHeld, signedOf, noSigned}
 use Rattle.key_gen_message.specs.declared.ReadSigned.{ReadSigned}
-use Rattle.commit.specs.Steps.{workOf, committedMessage}
+use Rattle.steps.specs.Steps.{committedMessage}
+use Rattle.commit.specs.Work.{workOf}
 use Rattle.bincode.proofs.RereadLaws.{Handling, handle-more, handle-refused, reread-start, reread-end}
 use Rattle.key_gen_message.proofs.MessageLaws.{held-signed}
 use Rattle.commit.proofs.Work.commit_messages.Statement.{statement}

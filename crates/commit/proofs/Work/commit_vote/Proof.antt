@@ -3,7 +3,8 @@ use mathlib.Core.Path.{sym, ap, _∙_}
 use Rattle.bincode.specs.Sizes.{base}
 use Rattle.vote_counter.specs.Answers.{saidOutcome}
 use Rattle.vote_counter.specs.declared.VoteOutcome.{VoteOutcome}
-use Rattle.commit.specs.Steps.{workOf, votedBy}
+use Rattle.steps.specs.Steps.{votedBy}
+use Rattle.commit.specs.Work.{workOf}
 use Rattle.commit.proofs.TurnLaws.{voted, withVotes}
 use Rattle.commit.proofs.Work.commit_vote.Statement.{statement}
 use Rattle.commit.proofs.Work.commit_vote.Tie as tie

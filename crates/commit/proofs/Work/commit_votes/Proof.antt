@@ -8,7 +8,8 @@ use Rattle.bincode.specs.Items.{plain, stay}
 use Rattle.bincode.specs.Sizes.{base}
 use Rattle.votes.specs.Votes.{readSignedVote, signedHeld, signedOf, noSigned}
 use Rattle.votes.specs.declared.ReadSignedVote.{ReadSignedVote}
-use Rattle.commit.specs.Steps.{workOf, committedVote}
+use Rattle.steps.specs.Steps.{committedVote}
+use Rattle.commit.specs.Work.{workOf}
 use Rattle.bincode.proofs.RereadLaws.{Handling, handle-more, handle-refused, reread-start, reread-end}
 use Rattle.votes.proofs.VoteLaws.{held-vote}
 use Rattle.commit.proofs.Work.commit_votes.Statement.{statement}

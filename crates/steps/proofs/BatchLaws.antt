@@ -7,7 +7,7 @@ use Rattle.bincode.specs.Items.{foldl}
 use Rattle.bincode.specs.Sizes.{Sizes}
 use Rattle.internal_contrib.specs.InternalContrib.{ContribOf}
 use Rattle.dynamic_honey_badger.specs.State.{StateOf}
-use Rattle.commit.specs.Steps.{begun, committedContrib, committed}
+use Rattle.steps.specs.Steps.{begun, committedContrib, committed}
 
 pub committed-more : (z : Sizes) (s : StateOf) (verdicts : List ℕ) (c : ContribOf) (cs : List ContribOf)
     → committed z s verdicts (c ∷ cs) ≡ foldl (committedContrib z) (committedContrib z (begun s verdicts) c) cs

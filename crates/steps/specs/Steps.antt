@@ -2,7 +2,7 @@
 use Prim.Native.Nat.{ℕ}
 use mathlib.Core.List.{List, [], _∷_, _++_}
 use mathlib.Core.Bool.{cond}
-use lib.ListN.{take, drop}
+use lib.ListN.{take}
 use lib.Dec.{eqb}
 use Rattle.lists.specs.Lists.{Found, found, nothing}
 use Rattle.bincode.specs.Sizes.{Sizes}
@@ -10,24 +10,17 @@ use Rattle.bincode.specs.Items.{foldl}
 use Rattle.fault_log.specs.declared.FaultKind.{FaultKind}
 use Rattle.fault_log.specs.declared.FaultKind.the-variants.{InvalidKeyGenMessageSignature, InvalidKeyGenMessageEra, UnexpectedKeyGenPart, UnexpectedKeyGenAck}
 use Rattle.fault_log.specs.declared.Fault.{Fault}
-use Rattle.fault_log.specs.FaultLog.{faultsOf}
-use Rattle.due.specs.Due.{dueOf}
 use Rattle.pub_key_map.specs.declared.Node.{Node}
 use Rattle.due.specs.declared.DueKind.the-variants.{Ack}
 use Rattle.due.specs.declared.DueItem.{DueItem}
 use Rattle.votes.specs.Votes.{SignedVoteOf}
 use Rattle.vote_counter.specs.VoteCounter as counter
 use Rattle.key_gen.specs.KeyGen as key-gen
-use Rattle.key_gen_state.specs.KeyGenState as running
 use Rattle.key_gen_state.specs.KeyGenState.{KeyGenStateOf}
 use Rattle.key_gen_message.specs.KeyGenMessage.{KeyGenMessageOf, part, ack, SignedKeyGenMsgOf}
-use Rattle.message_store.specs.MessageStore.{without, storeOf}
+use Rattle.message_store.specs.MessageStore.{without}
 use Rattle.internal_contrib.specs.InternalContrib.{ContribOf}
 use Rattle.dynamic_honey_badger.specs.State.{StateOf, eraOf, nodesIn, withCounter, withKeyGen, withStore, validUnder, candidateNodes}
-use Rattle.commit.specs.declared.Work.{Work}
-use Rattle.commit.specs.declared.MessageTold.{MessageTold}
-use Rattle.commit.specs.declared.MessageTold.the-variants as told
-use Rattle.commit.specs.declared.MessageDone.{MessageDone}
 
 -- a batch that is being handled: the state so far, faults and due items in order of arising, and the verdicts on the key messages to come
 pub record WorkOf : Type 0 where
@@ -145,22 +138,3 @@ begun s verdicts = record { state = s; faults = []; due = []; verdicts = verdict
 
 unfoldable pub committed : Sizes → StateOf → List ℕ → List ContribOf → WorkOf
 committed z s verdicts cs = foldl (committedContrib z) (begun s verdicts) cs
-
--- as code holds it: the state in parts, and how many verdicts were used
-abbrev pub workOf : List ℕ → Work → WorkOf
-workOf verdicts w =
-    record {
-      state = record { counter = counter.counterOf (w .«vote_counter»); params = w .params; key-gen = running.stateOf (w .«key_gen_state»); store = storeOf (w .store) };
-      faults = faultsOf (w .faults);
-      due = dueOf (w .due);
-      verdicts = drop (w .judged) verdicts;
-    }
-
-abbrev pub saidTold : MessageTold → Told
-saidTold told.Quiet = quiet
-saidTold (told.Owed i) = owed i
-saidTold (told.BlamedProposer k) = blamed-proposer k
-saidTold (told.BlamedSigner k) = blamed-signer k
-
-abbrev pub messageDoneOf : MessageDone → MessageDoneOf
-messageDoneOf r = doneAs (running.stateOf (r .state)) (saidTold (r .told))

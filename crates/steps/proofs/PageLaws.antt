@@ -23,7 +23,7 @@ use Rattle.key_gen_message.specs.KeyGenMessage.{part, ack, SignedKeyGenMsgOf}
 use Rattle.message_store.specs.MessageStore.{without}
 use Rattle.dynamic_honey_badger.specs.State.{StateOf}
 use Rattle.dynamic_honey_badger.proofs.PageMessageLaws.{SignedBy, signed-valid, unsigned-not}
-use Rattle.commit.specs.Steps.{WorkOf, committedVote, messageDone, committedMessage}
+use Rattle.steps.specs.Steps.{WorkOf, committedVote, messageDone, committedMessage}
 
 -- one more goes behind those there are, where the list has room
 more : {A : Type 0} (n : ℕ) (xs : List A) (x : A) → length xs < n → take n (xs ++ (x ∷ [])) ≡ xs ++ (x ∷ [])
