@@ -17,8 +17,12 @@ use Rattle.dynamic_honey_badger.specs.declared.NextEpoch.the-variants as
 unfoldable pub row5 : ℕ → Bool
 row5 epoch = ltb 18446744073709551614 epoch
 
+-- the epoch of a batch in an era
+abbrev pub epochIn : ℕ → ℕ → Outcome ℕ
+epochIn era inner = cond (row5 (era + inner)) (refused 5) (done (era + inner))
+
 unfoldable pub nextEpoch : StateOf → ℕ → Outcome ℕ
-nextEpoch s inner = cond (row5 (eraOf s + inner)) (refused 5) (done (eraOf s + inner))
+nextEpoch s inner = epochIn (eraOf s) inner
 
 unfoldable pub someBy : ℕ → List SignedVoteOf → Bool
 someBy id [] = false

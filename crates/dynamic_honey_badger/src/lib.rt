@@ -16,7 +16,7 @@ ghost use Rattle.joining.specs.declared.StartOutcome.the-variants.{Accepted};
 ghost use Rattle.dynamic_honey_badger.specs.State.{stateOf, inProgressMap, isValidator, candidateNodes, validUnder, partDue, openedHeld, notOpened, started, startedOf, StartRefusedEmpty, joinedBy, joined, joinedOf, JoinRefusedEmpty};
 ghost use Rattle.dynamic_honey_badger.specs.OwnVotes.{votedOf, notCast, NotCastKeeps, voteFor, voteForBytes, voteToAdd, voteToRemove};
 ghost use Rattle.dynamic_honey_badger.specs.Received.{handledOf, MessageRefusedKeeps, keyGenIn, receivedKeyGen, receivedContent, received, votedIn, messageEra};
-ghost use Rattle.dynamic_honey_badger.specs.Asked.{nextEpoch, saidNext, someBy, shouldPropose};
+ghost use Rattle.dynamic_honey_badger.specs.Asked.{nextEpoch, epochIn, saidNext, someBy, shouldPropose};
 use bincode::Step;
 use change::Change;
 use change::ChangeKind;
@@ -113,7 +113,7 @@ pub fn verify_signature(pub_keys: PubKeyMap, state: KeyGenState, id: u32, sig: u
 }
 
 // Whether a signature is under the id's key of a map.
-fn is_key(map: PubKeyMap, id: u32, sig: u64) -> bool
+pub fn is_key(map: PubKeyMap, id: u32, sig: u64) -> bool
     ensures { λ r. ⌜ r ≡ isKey sig (keyOf (nodesOf map) id) ⌝ }
 {
     let NodeKey::Key(key) = network_info::node_key(map, id) else {
@@ -502,15 +502,22 @@ impl DynamicHoneyBadger {
         ensures { λ r. ⌜ saidNext r ≡ nextEpoch (stateOf self) inner ⌝ }
     {
         let counter = self.vote_counter;
-        let last = 18446744073709551614;
-        if last < counter.era {
-            return NextEpoch::Refused(5);
-        }
-        if last - counter.era < inner {
-            return NextEpoch::Refused(5);
-        }
-        NextEpoch::Epoch(counter.era + inner)
+        epoch_in(counter.era, inner)
     }
+}
+
+// The epoch of a batch in an era; row 5 where it is over 2^64-2.
+pub fn epoch_in(era: u64, inner: u64) -> NextEpoch
+    ensures { λ r. ⌜ saidNext r ≡ epochIn era inner ⌝ }
+{
+    let last = 18446744073709551614;
+    if last < era {
+        return NextEpoch::Refused(5);
+    }
+    if last - era < inner {
+        return NextEpoch::Refused(5);
+    }
+    NextEpoch::Epoch(era + inner)
 }
 
 // The state as given, with no vote.
