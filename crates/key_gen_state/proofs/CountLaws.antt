@@ -7,15 +7,14 @@ use mathlib.Core.Logic.{_⊎_, inl, inr, ⊎-elim}
 use mathlib.Core.Bool.{Bool, true, false, cond}
 use native.Mathlib.Omega.{arith}
 use lib.Dec.{ltb}
-use lib.ListN.{length, getD, set}
+use lib.ListN.{length}
 use borrow.Author.Tests.{ltb-true, le-ltb}
 use Rattle.lists.specs.Lists.{Found, found, nothing}
 use Rattle.bincode.specs.Sizes.{Sizes}
 use Rattle.pub_key_map.specs.declared.Node.{Node}
 use Rattle.network_info.specs.NetworkInfo.{nodeIndex}
 use Rattle.network_info.proofs.IndexLaws.{index-found, index-unique}
-use Rattle.key_gen.specs.KeyGen.{nodeCount}
-use Rattle.key_gen_state.specs.KeyGenState.{KeyGenStateOf, CountedOf, placeBy, senderPlace, rises, raised, countMessages}
+use Rattle.key_gen_state.specs.KeyGenState.{placeBy, senderPlace, rises, raised}
 
 -- a sender's place goes by its index in the candidate map, then by that in the current one
 module _ (z : Sizes) (cur cand : List Node) (id : ℕ) where
@@ -90,17 +89,3 @@ raised-le n c h = go (ltb c (n + 2)) refl
     go : (b : Bool) → ltb c (n + 2) ≡ b → cond b (c + 1) c ≤ n + 2
     go true e = omega (arith, ltb-true c (n + 2) e)
     go false e = h
-
--- what counting a message comes to, by the sender's place
-module _ (z : Sizes) (cur : List Node) (g : KeyGenStateOf) (sender : ℕ) where
-  -- a sender in neither map has no count
-  pub counted-none : nothing ≡ senderPlace z cur (g .key-gen .nodes) sender → record { state = g; count = 0 } ≡ countMessages z cur g sender
-  unfolding countMessages
-  counted-none e = rw (← e)
-
-  -- a sender with a place has its count raised
-  pub counted-at : (i k : ℕ) → found i ≡ senderPlace z cur (g .key-gen .nodes) sender → k ≡ raised (nodeCount (g .key-gen)) (getD (g .counts) i 0)
-      → record { state = record { key-gen = g .key-gen; counts = set (g .counts) i k }; count = k } ≡ countMessages z cur g sender
-  unfolding countMessages
-  counted-at i k e f =
-      rw (← e) (ap {B = CountedOf} (λ (k : ℕ). record { state = record { key-gen = g .key-gen; counts = set (g .counts) i k }; count = k }) f)

@@ -1,2 +1,4 @@
 pub mod CountLaws
+pub mod LentCountLaws
+pub mod LocalCounts
 pub mod PageLaws

@@ -1,1 +1,2 @@
 pub mod KeyGenState
+pub mod LentCounts

@@ -1,13 +1,13 @@
 // mod.rs: `KeyGenState`, the running key generation, with the number of messages received from each sender.
 ghost use mathlib.Core.Path.{_≡_};
 ghost use Prim.Native.Nat.{_+_, _≤_};
-ghost use lib.ListN.{replicate};
+ghost use lib.ListN.{length, replicate};
 ghost use Rattle.lists.specs.Lists.{found};
 ghost use Rattle.bincode.specs.Sizes.{base};
 ghost use Rattle.pub_key_map.specs.PubKeyMap.{nodesOf};
 ghost use Rattle.key_gen.specs.KeyGen.{keyGenOf};
-ghost use Rattle.network_info.specs.NetworkInfo.{saidIndex};
-ghost use Rattle.key_gen_state.specs.KeyGenState.{stateOf, runningOf, noKeyGen, freshState, senderPlace, raised, countedOf, countMessages, readyState};
+ghost use Rattle.key_gen_state.specs.KeyGenState.{stateOf, runningOf, noKeyGen, freshState, raised, countedOf, countMessages, readyState};
+ghost use Rattle.key_gen_state.specs.LentCounts.{nodesUpTo, CountRaised, placeOf, countsPut};
 use key_gen::KeyGen;
 use network_info::NodeIndex;
 use pub_key_map::PubKeyMap;
@@ -42,17 +42,52 @@ pub struct Counted {
     pub count: u8,
 }
 
-// A sender's place among the counts, if it is in one of the maps.
-fn place(current: PubKeyMap, candidate: PubKeyMap, sender: u32) -> NodeIndex
-    ensures { λ r. ⌜ saidIndex r ≡ senderPlace base (nodesOf current) (nodesOf candidate) sender ⌝ }
+// Counts with one raised, and that one.
+struct RaisedCounts {
+    counts: MessageCounts,
+    count: u8,
+}
+
+// A sender's place among the counts; past the last for one that is in neither map.
+fn sender_place(state: KeyGenState, current: PubKeyMap, sender: u32) -> usize
+    ensures { λ r. ⌜ (r ≡ placeOf base (nodesOf current) (runningOf state) sender) × (length (nodesOf current) ≤ base .nodes) × (length (runningOf state .counts) ≡ base .nodes + base .nodes) ⌝ }
 {
+    let key_gen = state.key_gen;
+    let candidate = key_gen.pub_keys;
     let NodeIndex::At(i) = network_info::node_index(candidate, sender) else {
         let NodeIndex::At(j) = network_info::node_index(current, sender) else {
-            return NodeIndex::Nothing;
+            return MessageCounts::LIMIT;
         };
-        return NodeIndex::At(PubKeyMap::LIMIT + j);
+        return PubKeyMap::LIMIT + j;
     };
-    NodeIndex::At(i)
+    i
+}
+
+// How many nodes the candidate map has.
+fn node_count(state: KeyGenState) -> usize
+    ensures { λ r. ⌜ (r ≡ length (runningOf state .key-gen .nodes)) × (r ≤ base .nodes) ⌝ }
+{
+    let key_gen = state.key_gen;
+    let candidate = key_gen.pub_keys;
+    candidate.len()
+}
+
+// The state with other counts, and a count.
+fn with_counts(mut state: KeyGenState, counts: MessageCounts, count: u8) -> Counted
+    ensures { λ r. ⌜ r ≡ countsPut state counts count ⌝ }
+{
+    state.counts = counts;
+    Counted { state, count }
+}
+
+// A number of nodes, no higher than a map has places.
+fn nodes_up_to(n: usize) -> usize
+    ensures { λ r. ⌜ r ≡ nodesUpTo base n ⌝ }
+{
+    if n < PubKeyMap::LIMIT {
+        return n;
+    }
+    PubKeyMap::LIMIT
 }
 
 // One more, but not past the number of nodes and two.
@@ -64,6 +99,32 @@ fn raise(count: u8, n: usize) -> u8
         return count + 1;
     }
     count
+}
+
+// The count at a place raised, and answered; past the last place nothing changes, and the count is 0.
+fn raised_counts(mut c: MessageCounts, place: usize, n: usize) -> RaisedCounts
+    ensures { λ r. ⌜ CountRaised base (c .counts) place n (r .counts .counts) (r .count) ⌝ }
+{
+    if place < MessageCounts::LIMIT {
+        let nodes = nodes_up_to(n);
+        let count = raise(c.counts[place], nodes);
+        c.counts[place] = count;
+        return RaisedCounts { counts: c, count };
+    }
+    RaisedCounts {
+        counts: c,
+        count: 0,
+    }
+}
+
+// Raises the count at a place, but not past the number of nodes and two, and answers it; past the last place nothing changes, and it answers 0.
+pub fn count_messages(counts: &mut MessageCounts, place: usize, n: usize) -> u8
+    ensures { λ r. ⌜ CountRaised base (now (counts .entry) .counts) place n (now (counts .exit) .counts) r ⌝ }
+{
+    let c = *counts;
+    let r = raised_counts(c, place, n);
+    *counts = r.counts;
+    r.count
 }
 
 impl KeyGenState {
@@ -100,23 +161,14 @@ impl KeyGenState {
         false
     }
 
-    // Raises the sender's count, and answers it; 0 for a sender that is in neither map.
-    pub fn count_messages(mut self, current: PubKeyMap, sender: u32) -> Counted
+    // Raises the sender's count in the record of counts, which is lent, and answers it; 0 for a sender that is in neither map.
+    pub fn count_messages(self, current: PubKeyMap, sender: u32) -> Counted
         ensures { λ r. ⌜ (countedOf r ≡ countMessages base (nodesOf current) (runningOf self) sender) × (r .state .running ≡ self .running) ⌝ }
     {
-        let key_gen = self.key_gen;
-        let candidate = key_gen.pub_keys;
-        let n = candidate.len();
-        let NodeIndex::At(i) = place(current, candidate, sender) else {
-            return Counted {
-                state: self,
-                count: 0,
-            };
-        };
-        let mut c = self.counts;
-        let count = raise(c.counts[i], n);
-        c.counts[i] = count;
-        self.counts = c;
-        Counted { state: self, count }
+        let mut counts = self.counts;
+        let place = sender_place(self, current, sender);
+        let n = node_count(self);
+        let count = count_messages(&mut counts, place, n);
+        with_counts(self, counts, count)
     }
 }

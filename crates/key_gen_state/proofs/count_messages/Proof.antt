@@ -40,21 +40,21 @@ use denote.Triple.Table.{entered, cited}
 use denote.Triple.Walked.{says, Stays, stay-ref, stay-none, walkOf, AllGo, goes-none, goes-ref, Walks, ends-at, walked, walk-meets}
 use denote.Exit.{yes}
 use Rattle.bincode.specs.Sizes.{base as sizes}
 use Rattle.key_gen_state.specs.declared.MessageCounts.{MessageCounts}
 use Rattle.key_gen_state.proofs.MessageCounts as T
 use Rattle.key_gen_state.proofs.MessageCounts.Laws as T′
-use Rattle.lent.specs.declared.RaisedCounts.{RaisedCounts}
-use Rattle.lent.specs.Lent.{raisedAt, countAt}
-use Rattle.lent.proofs.RaisedCounts as P
-use Rattle.lent.proofs.RaisedCounts.Laws as P′
-use Rattle.lent.proofs.raised_counts as callee
-use Rattle.lent.proofs.raised_counts.Symbol as callee-def
-use Rattle.lent.proofs.raised_counts.Symbol.{name as #lent·raised-counts}
-use Rattle.lent.proofs.raised_counts.Met as callee-thm
-use Rattle.lent.proofs.count_messages.Key.{name as #lent·count-messages}
-use Rattle.lent.proofs.count_messages as f
-use Rattle.lent.proofs.count_messages.Statement as stated
-use Rattle.lent.proofs.count_messages.Code as code
+use Rattle.key_gen_state.specs.declared.RaisedCounts.{RaisedCounts}
+use Rattle.key_gen_state.specs.LentCounts.{raisedAt, countAt}
+use Rattle.key_gen_state.proofs.RaisedCounts as P
+use Rattle.key_gen_state.proofs.RaisedCounts.Laws as P′
+use Rattle.key_gen_state.proofs.raised_counts as callee
+use Rattle.key_gen_state.proofs.raised_counts.Symbol as callee-def
+use Rattle.key_gen_state.proofs.raised_counts.Symbol.{name as #key-gen-state·raised-counts}
+use Rattle.key_gen_state.proofs.raised_counts.Met as callee-thm
+use Rattle.key_gen_state.proofs.count_messages.Key.{name as #key-gen-state·count-messages}
+use Rattle.key_gen_state.proofs.count_messages as f
+use Rattle.key_gen_state.proofs.count_messages.Statement as stated
+use Rattle.key_gen_state.proofs.count_messages.Code as code
 
 abbrev Arg : Type 0
 Arg = RefT MessageCounts × (ℕ × (ℕ × Unit {0}))
@@ -107,7 +107,7 @@ module _ {M : Type 1} (𝓤 : URA M) (H : Heap 𝓤) (A : Atoms 𝓤) (W : Given
       qed W (‵ ftrue ∷ []) ∵ nothing ! $ owned ! usize (Is usize) (uint-makes 𝓤 H A W w64) n _ (refl, n-fits) $ fjoin ! $ owned ! usize (Is usize) (uint-makes 𝓤 H A W w64) place _ (refl, place-fits) $ fjoin ! $
       owned ! R (Is R) ((LL.makes T.the-type T′.the-plain) 𝓤 H A) h _ is $ fjoin ! $ move ! (1 ∷ 0 ∷ []) $ join ! $ frame ! $ done !
 
-  module _ (C : Calls 𝓤 H) (Λ : Loops 𝓤 H) (fm : FmC 𝓤 H (W .laws) C) (known : Triple 𝓤 (C #lent·raised-counts) (Callee 𝓤 H A at-mem run)) where
+  module _ (C : Calls 𝓤 H) (Λ : Loops 𝓤 H) (fm : FmC 𝓤 H (W .laws) C) (known : Triple 𝓤 (C #key-gen-state·raised-counts) (Callee 𝓤 H A at-mem run)) where
     walk : ent 𝓤 (onEntry 𝓤 H A f.signature (κ, tt) (q, tt) x at) (WpFn 𝓤 H C Λ code.function (vptr b o ∷ vint w64 place ∷ vint w64 n ∷ []) Post)
     walk =
         qed W ((‵ (flft κ q) ⊛ ‵ ftrue) ∷ ‵ (owns (MutRef (named 0) κ R ∷ usize ∷ usize ∷ []) x at) ∷ []) ∵ enter ! C Λ code.function (vptr b o ∷ vint w64 place ∷ vint w64 n ∷ []) _ $
@@ -136,14 +136,14 @@ module _ {M : Type 1} (𝓤 : URA M) (H : Heap 𝓤) (A : Atoms 𝓤) (W : Given
         keep ! (0 ∷ 1 ∷ 2 ∷ []) $ by ! (exits r (LL.owed P.the-type P′.the-laws r _ is .1 .0 .1) e)))))))))))))
 
 module _ {M : Type 1} (𝓤 : URA M) (H : Heap 𝓤) (A : Atoms 𝓤) (W : Given 𝓤 H A) (at-mem : Memory → SProp 𝓤) (run : Routine → Fun 𝓤) where
-  count-messages-walks : (C : Calls 𝓤 H) (Λ : Loops 𝓤 H) → FmC 𝓤 H (W .laws) C → Triple 𝓤 (C #lent·raised-counts) (Callee 𝓤 H A at-mem run) → Walks 𝓤 H A f.ended stayed (WpFn 𝓤 H C Λ code.function) (f.clauses 𝓤 H A at-mem run)
+  count-messages-walks : (C : Calls 𝓤 H) (Λ : Loops 𝓤 H) → FmC 𝓤 H (W .laws) C → Triple 𝓤 (C #key-gen-state·raised-counts) (Callee 𝓤 H A at-mem run) → Walks 𝓤 H A f.ended stayed (WpFn 𝓤 H C Λ code.function) (f.clauses 𝓤 H A at-mem run)
   count-messages-walks C Λ fm known = walked 𝓤 H A f.ended stayed (f.clauses 𝓤 H A at-mem run) (WpFn 𝓤 H C Λ code.function) (λ κs. (ptr-vals, (uint-vals w64, (uint-vals w64, tt)))) (λ κs. (mut-tells (named 0) (κs .0) R, (uint-tells w64, (uint-tells w64, tt))))
       (λ κs qs bounds a g are. via 𝓤 _ (fst∗ 𝓤 _ (emp 𝓤)) (walk 𝓤 H A W at-mem run (κs .0) (qs .0) (a .0 .ptr .0) (a .0 .ptr .1) (a .0 .name) (a .0 .now) (a .1 .0) (a .1 .1 .0) (are .1 .0 .1) (are .1 .1 .0 .1) C Λ fm known))
 
   goes : AllGo 𝓤 H A W 1 (f.signature .params) (f.ended .kept) stayed
   goes = (goes-ref 𝓤 H A W 1 0 tt (plain (λ _. R)), (goes-none 𝓤 H A W 1 (λ _. usize) yes (λ κs x f. refl), (goes-none 𝓤 H A W 1 (λ _. usize) yes (λ κs x f. refl), tt)))
 
-count-messages-meets : {M : Type 1} (𝓤 : URA M) (H : Heap 𝓤) (A : Atoms 𝓤) → Given 𝓤 H A → (at-mem : Memory → SProp 𝓤) (run : Routine → Fun 𝓤) (𝓣 : Tables 𝓤 H) → Triple 𝓤 (𝓣 .C #lent·raised-counts) (Callee 𝓤 H A at-mem run)
+count-messages-meets : {M : Type 1} (𝓤 : URA M) (H : Heap 𝓤) (A : Atoms 𝓤) → Given 𝓤 H A → (at-mem : Memory → SProp 𝓤) (run : Routine → Fun 𝓤) (𝓣 : Tables 𝓤 H) → Triple 𝓤 (𝓣 .C #key-gen-state·raised-counts) (Callee 𝓤 H A at-mem run)
     → Meets 𝓤 H A f.signature (WpFn 𝓤 H (𝓣 .C) (𝓣 .Λ) code.function) (f.spec 𝓤 H A at-mem run)
 count-messages-meets 𝓤 H A W at-mem run 𝓣 known = walk-meets 𝓤 H A f.ended stayed W (goes 𝓤 H A W at-mem run) (f.clauses 𝓤 H A at-mem run) (WpFn 𝓤 H (𝓣 .C) (𝓣 .Λ) code.function) (WpFn-mono 𝓤 H (W .laws) 𝓣 code.function) (count-messages-walks 𝓤 H A W at-mem run (𝓣 .C) (𝓣 .Λ) (fmOf 𝓤 H (W .laws) 𝓣) known)
 
@@ -151,6 +151,6 @@ pub count-messages-spec : {M : Type 1} → stated.statement M
 unfolding code.routine tablesOf
 count-messages-spec 𝓤 H 𝓜 𝓖 𝓡 =
     entered 𝓤 H (tripleOf 𝓤 H (𝓖 .A) f.signature (f.spec 𝓤 H (𝓖 .A) (𝓜 .mem) (𝓡 .run)))
-    (tables 𝓤 H 𝓜 𝓡 code.env .C) (tables 𝓤 H 𝓜 𝓡 code.env .Λ) #lent·count-messages code.function (code.unfolded 𝓤 H 𝓜 𝓡)
+    (tables 𝓤 H 𝓜 𝓡 code.env .C) (tables 𝓤 H 𝓜 𝓡 code.env .Λ) #key-gen-state·count-messages code.function (code.unfolded 𝓤 H 𝓜 𝓡)
     (count-messages-meets 𝓤 H (𝓖 .A) (givenOf 𝓤 H 𝓜 𝓖) (𝓜 .mem) (𝓡 .run) (tablesOf 𝓤 H 𝓜 (tables 𝓤 H 𝓜 𝓡 code.env))
-    (cited 𝓤 H (Callee 𝓤 H (𝓖 .A) (𝓜 .mem) (𝓡 .run)) 𝓜 𝓡 code.env #lent·raised-counts callee-def.routine code.calls-lent·raised-counts (callee-thm.met 𝓤 H 𝓜 𝓖 𝓡)))
+    (cited 𝓤 H (Callee 𝓤 H (𝓖 .A) (𝓜 .mem) (𝓡 .run)) 𝓜 𝓡 code.env #key-gen-state·raised-counts callee-def.routine code.calls-key-gen-state·raised-counts (callee-thm.met 𝓤 H 𝓜 𝓖 𝓡)))

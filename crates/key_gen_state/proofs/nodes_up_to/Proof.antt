@@ -2,8 +2,8 @@ use borrow.Author.Tests.{lt-ltb, le-ltb}
 use mathlib.Core.Path.{sym}
 use Rattle.bincode.specs.Sizes.{base}
 use Rattle.lists.proofs.ListLaws.{cond-yes, cond-no}
-use Rattle.lent.proofs.nodes_up_to.Statement.{statement}
-use Rattle.lent.proofs.nodes_up_to.Tie as tie
+use Rattle.key_gen_state.proofs.nodes_up_to.Statement.{statement}
+use Rattle.key_gen_state.proofs.nodes_up_to.Tie as tie
 
 returns : tie.Need-returns
 returns c = sym (cond-yes _ _ (lt-ltb (c .before .args .n) (base .nodes) (c .if1 .taken)))
