@@ -11,6 +11,7 @@ use borrow.Fn.Kinds.{Dens, GoodsP}
 use borrow.Table.Referent.{fInt}
 use borrow.Rule.Slice.Know.{Fit}
 use Rattle.bincode.specs.Stands.{Bytes, All}
+use Rattle.filled.specs.Numbers.{duePlaces}
 use Rattle.batch.proofs.Batch.join_plan.Kinds as planning
 use Rattle.dynamic_honey_badger.proofs.DynamicHoneyBadger.new.Kinds as new
 use Rattle.dynamic_honey_badger.proofs.DynamicHoneyBadger.new_joining.Kinds as joining
@@ -34,9 +35,9 @@ pub new-fits : (κs : Lfts 2) (a : Dens κs new.ps) → GoodsP κs new.ps a → 
 new-fits κs a g map params =
     (omega (arith, g .0 .1), omega (arith, g .1 .0 .1), omega (arith, g .1 .1 .0 .1), bytes-fit (now (a .1 .1 .1 .0)) map, bytes-fit (now (a .1 .1 .1 .1 .0)) params)
 
--- joining: own id, own key, plan, lent places
-pub joining-fits : (κs : Lfts 1) (a : Dens κs joining.ps) → GoodsP κs joining.ps a → Fit (fInt w8) 0 (now (a .1 .1 .0))
-    → StartFits (join-start (a .1 .1 .1 .0) (a .0) (a .1 .0) (now (a .1 .1 .0)))
+-- joining: own id, own key, plan, lent lists of due items
+pub joining-fits : (κs : Lfts 4) (a : Dens κs joining.ps) → GoodsP κs joining.ps a → Fit (fInt w8) 0 (now (a .1 .1 .0))
+    → StartFits (join-start (duePlaces (now (a .1 .1 .1 .0)) (now (a .1 .1 .1 .1 .0)) (now (a .1 .1 .1 .1 .1 .0))) (a .0) (a .1 .0) (now (a .1 .1 .0)))
 joining-fits κs a g plan = (omega (arith, g .0 .1), omega (arith, g .1 .0 .1), bytes-fit (now (a .1 .1 .0)) plan)
 
 -- a batch: inner epoch, batch, verdicts, lent places

@@ -1,4 +1,5 @@
 pub mod StateLaws
+pub mod JoinLaws
 pub mod OwnVotesLaws
 pub mod ReceivedLaws
 pub mod AskedLaws

@@ -20,11 +20,10 @@ use Rattle.key_gen.specs.KeyGen.{KeyGenOf, keyGenOf, freshHeld}
 use Rattle.key_gen.proofs.KeyGenLaws.{fresh}
 use Rattle.key_gen_state.specs.declared.KeyGenState.{KeyGenState}
 use Rattle.key_gen_state.specs.KeyGenState as running
-use Rattle.join_plan.specs.JoinPlan.{PlanOf}
 use Rattle.joining.specs.declared.StartOutcome.{StartOutcome}
 use Rattle.joining.specs.declared.StartOutcome.the-variants as start
 use Rattle.joining.specs.Starting.{StartOf, saidStart}
-use Rattle.dynamic_honey_badger.specs.State.{StateOf, stateOf, withKeyGen, keyGenFor, partDue, opened, startedFrom, inProgressMap, Joined, joinedBy, joinedWith, joinedFrom}
+use Rattle.dynamic_honey_badger.specs.State.{StateOf, stateOf, withKeyGen, keyGenFor, partDue, opened, startedFrom, inProgressMap, joinedBy}
 use Rattle.dynamic_honey_badger.specs.declared.DynamicHoneyBadger.{DynamicHoneyBadger}
 
 -- a fresh key generation in the place of what was there
@@ -40,19 +39,10 @@ pub start-denied : (id key era n : ℕ) (o : StartOutcome) (a : StartOf) (s : St
 start-denied id key era n o a s e =
     ap (λ (x : StartOutcome). saidStart x s) e ∙ sym (ap (λ (x : StartOutcome). startedFrom id key era (saidStart x a)) e)
 
-pub join-denied : (z : Sizes) (id key n : ℕ) (o : StartOutcome) (p : PlanOf) (j : Joined) → o ≡ start.Refused n → saidStart o j ≡ joinedFrom z id key (saidStart o p)
-join-denied z id key n o p j e =
-    ap (λ (x : StartOutcome). saidStart x j) e ∙ sym (ap (λ (x : StartOutcome). joinedFrom z id key (saidStart x p)) e)
-
 -- a node starts where its map and parameters are accepted, and not where they are refused
 pub start-said : (id key era : ℕ) (o : StartOutcome) (a : StartOf) → saidStart o (opened id key era (a .keys) (a .params)) ≡ startedFrom id key era (saidStart o a)
 start-said id key era start.Accepted a = refl
 start-said id key era (start.Refused n) a = refl
-
--- the same of a plan
-pub join-said : (z : Sizes) (id key : ℕ) (o : StartOutcome) (p : PlanOf) → saidStart o (joinedWith z id key p) ≡ joinedFrom z id key (saidStart o p)
-join-said z id key start.Accepted p = refl
-join-said z id key (start.Refused n) p = refl
 
 -- what a plan's change asks: a fresh key generation where a map is in progress, else nothing
 module _ (z : Sizes) (id era : ℕ) (s : StateOf) where

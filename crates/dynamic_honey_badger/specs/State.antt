@@ -2,6 +2,7 @@
 use Prim.Native.Nat.{ℕ}
 use mathlib.Core.Path.{_≡_}
 use mathlib.Core.List.{List, [], _∷_}
+use lib.ListN.{length}
 use mathlib.Core.Bool.{Bool, true, false, cond, _||_}
 use Rattle.lists.specs.Lists.{Found, found, nothing}
 use Rattle.bincode.specs.Outcome.{Outcome, done, refused}
@@ -19,10 +20,10 @@ use Rattle.key_gen_message.specs.KeyGenMessage.{SignedKeyGenMsgOf}
 use Rattle.message_store.specs.MessageStore.{fromEra, storeOf, noStore}
 use Rattle.due.specs.declared.DueKind.the-variants.{Part}
 use Rattle.due.specs.declared.DueItem.{DueItem}
+use Rattle.filled.specs.Numbers.{DueIn, duePlaces}
 use Rattle.join_plan.specs.JoinPlan.{PlanOf}
 use Rattle.joining.specs.declared.StartOutcome.the-variants as start
 use Rattle.joining.specs.Starting.{StartOf, startChecked, joinChecked, saidStart}
-use Rattle.due.specs.Due.{dueOf, noDue}
 use Rattle.dynamic_honey_badger.specs.declared.DynamicHoneyBadger.{DynamicHoneyBadger}
 use Rattle.dynamic_honey_badger.specs.declared.Started.{Started}
 use Rattle.dynamic_honey_badger.specs.declared.JoinStarted.{JoinStarted}
@@ -131,6 +132,23 @@ joinedFrom z id key (refused n) = refused n
 unfoldable pub joined : Sizes → ℕ → ℕ → ℕ → List ℕ → Outcome Joined
 joined z places id key plan = joinedFrom z id key (joinChecked z places id key plan)
 
+-- as a call answers it: the due items go into the lent lists, and their number stands beside the state
+pub record JoinAnswer : Type 0 where
+  pub state : StateOf
+  pub due : ℕ
+
+abbrev pub numbered : Joined → JoinAnswer
+numbered j = record { state = j .state; due = length (j .due) }
+
+abbrev pub joinAnswer : Outcome Joined → Outcome JoinAnswer
+joinAnswer (done j) = done (numbered j)
+joinAnswer (refused n) = refused n
+
+-- what goes into the lists; a refused joining writes nothing
+abbrev pub joinDue : Outcome Joined → List DueItem
+joinDue (done j) = j .due
+joinDue (refused n) = []
+
 -- as code holds it
 abbrev pub stateOf : DynamicHoneyBadger → StateOf
 stateOf d =
@@ -144,8 +162,8 @@ stateOf d =
 abbrev pub startedOf : Started → Outcome StateOf
 startedOf r = saidStart (r .outcome) (stateOf (r .state))
 
-abbrev pub joinedOf : JoinStarted → Outcome Joined
-joinedOf r = saidStart (r .outcome) (record { state = stateOf (r .state); due = dueOf (r .due) })
+abbrev pub joinedOf : JoinStarted → Outcome JoinAnswer
+joinedOf r = saidStart (r .outcome) (record { state = stateOf (r .state); due = r .due })
 
 -- the struct of a state that is opened
 abbrev pub openedHeld : ℕ → ℕ → ℕ → PubKeyMap → Params → DynamicHoneyBadger
@@ -163,7 +181,14 @@ abbrev pub StartRefusedEmpty : Started → ℕ → ℕ → Type 0
 StartRefusedEmpty r id key = (n : ℕ) → r .outcome ≡ start.Refused n → r ≡ notStarted id key n
 
 abbrev pub notJoined : ℕ → ℕ → ℕ → JoinStarted
-notJoined id key n = record { outcome = start.Refused n; state = notOpened id key; due = noDue }
+notJoined id key n = record { outcome = start.Refused n; state = notOpened id key; due = 0 }
 
 abbrev pub JoinRefusedEmpty : JoinStarted → ℕ → ℕ → Type 0
 JoinRefusedEmpty r id key = (n : ℕ) → r .outcome ≡ start.Refused n → r ≡ notJoined id key n
+
+-- a joining with lent lists of due items: what it answers, and what the lists hold at the end
+abbrev pub JoinedLent : Sizes → ℕ → ℕ → List ℕ → JoinStarted → List ℕ → List ℕ → List ℕ → List ℕ → List ℕ → List ℕ → Type 0
+JoinedLent z id key plan r kinds kinds′ indices indices′ eras eras′ =
+    (joinedOf r ≡ joinAnswer (joined z (duePlaces kinds indices eras) id key plan))
+    × JoinRefusedEmpty r id key
+    × DueIn (joinDue (joined z (duePlaces kinds indices eras) id key plan)) kinds kinds′ indices indices′ eras eras′

@@ -1,5 +1,6 @@
 // dynamic_honey_badger.rs: the state of a node, how it starts, own votes, received messages, and what a host asks between batches.
 ghost use mathlib.Core.Path.{_≡_};
+ghost use lib.ListN.{length};
 ghost use Rattle.bincode.specs.Sizes.{base};
 ghost use Rattle.pub_key_map.specs.PubKeyMap.{nodesOf};
 ghost use Rattle.change.specs.Change.{changeOf, stateOf as progressOf};
@@ -11,9 +12,9 @@ ghost use Rattle.key_gen_message.specs.KeyGenMessage as key-gen;
 ghost use Rattle.key_gen_state.specs.KeyGenState as running;
 ghost use Rattle.message.specs.Message.{contentOf};
 ghost use Rattle.message_store.specs.MessageStore.{messageAt, saidStored, NoneStoredEmpty};
-ghost use Rattle.due.specs.Due.{dueOf};
+ghost use Rattle.filled.specs.Numbers.{DueIn};
 ghost use Rattle.joining.specs.declared.StartOutcome.the-variants.{Accepted};
-ghost use Rattle.dynamic_honey_badger.specs.State.{stateOf, inProgressMap, isValidator, candidateNodes, validUnder, partDue, openedHeld, notOpened, started, startedOf, StartRefusedEmpty, joinedBy, joined, joinedOf, JoinRefusedEmpty};
+ghost use Rattle.dynamic_honey_badger.specs.State.{stateOf, inProgressMap, isValidator, candidateNodes, validUnder, partDue, openedHeld, notOpened, started, startedOf, StartRefusedEmpty, joinedBy, numbered, JoinedLent};
 ghost use Rattle.dynamic_honey_badger.specs.OwnVotes.{votedOf, notCast, NotCastKeeps, voteFor, voteForBytes, voteToAdd, voteToRemove};
 ghost use Rattle.dynamic_honey_badger.specs.Received.{handledOf, MessageRefusedKeeps, keyGenIn, receivedKeyGen, receivedContent, received, votedIn, messageEra};
 ghost use Rattle.dynamic_honey_badger.specs.Asked.{nextEpoch, epochIn, saidNext, someBy, shouldPropose};
@@ -24,7 +25,6 @@ use change::ChangeState;
 use change::Progress;
 use due::DueItem;
 use due::DueKind;
-use due::DueList;
 use fault_log::FaultKind;
 use joining::StartOutcome;
 use key_gen::KeyGen;
@@ -59,11 +59,11 @@ pub struct Started {
     pub state: DynamicHoneyBadger,
 }
 
-// A node that joins, with its due list, or a refusal; state and list beside it are then the empty ones.
+// A node that joins, and how many due items stand in the lent lists, or a refusal; the state beside it is then the empty one, and there is no item.
 pub struct JoinStarted {
     pub outcome: StartOutcome,
     pub state: DynamicHoneyBadger,
-    pub due: DueList,
+    pub due: usize,
 }
 
 // An own vote was cast, it did nothing, or it was refused.
@@ -152,19 +152,27 @@ fn is_map_in_progress(state: ChangeState) -> bool
     }
 }
 
-// The due list of a fresh key generation: a part, where its map holds this node.
-fn due_part(map: PubKeyMap, our_id: u32, era: u64) -> DueList
-    ensures { λ r. ⌜ dueOf r ≡ partDue (nodesOf map) «our_id» era ⌝ }
+// Writes the due items of a fresh key generation, a part where its map holds this node, into the lent lists, and answers how many.
+fn due_part(
+    map: PubKeyMap,
+    our_id: u32,
+    era: u64,
+    kinds: &mut [u8],
+    indices: &mut [u64],
+    eras: &mut [u64],
+) -> usize
+    ensures { λ r. ⌜ (r ≡ length (partDue (nodesOf map) «our_id» era))
+        × DueIn (partDue (nodesOf map) «our_id» era) (now (kinds .entry)) (now (kinds .exit)) (now (indices .entry)) (now (indices .exit)) (now (eras .entry)) (now (eras .exit)) ⌝ }
 {
-    let none = DueList::empty();
     if network_info::is_member(map, our_id) {
         let item = DueItem {
             kind: DueKind::Part,
             era,
         };
-        return none.append(item);
+        filled::store_due(item, 0, kinds, indices, eras);
+        return 1;
     }
-    none
+    0
 }
 
 impl DynamicHoneyBadger {
@@ -207,10 +215,20 @@ impl DynamicHoneyBadger {
         }
     }
 
-    // Starts a node from a join plan: a fresh key generation where a map is in progress.
-    pub fn new_joining(our_id: u32, secret_key: u64, plan: &[u8], due_places: usize) -> JoinStarted
-        ensures { λ r. ⌜ (joinedOf r ≡ joined base «due_places» «our_id» «secret_key» (now (plan .entry))) × JoinRefusedEmpty r «our_id» «secret_key» ⌝ }
+    // Starts a node from a join plan: a fresh key generation where a map is in progress, its due items in the lent lists. Row 1 where one is too short.
+    pub fn new_joining(
+        our_id: u32,
+        secret_key: u64,
+        plan: &[u8],
+        due_kinds: &mut [u8],
+        due_indices: &mut [u64],
+        due_eras: &mut [u64],
+    ) -> JoinStarted
+        ensures { λ r. ⌜ JoinedLent base «our_id» «secret_key» (now (plan .entry)) r
+            (now («due_kinds» .entry)) (now («due_kinds» .exit)) (now («due_indices» .entry)) (now («due_indices» .exit)) (now («due_eras» .entry)) (now («due_eras» .exit)) ⌝ }
     {
+        let shorter = filled::shorter_of(due_kinds.len(), due_indices.len());
+        let due_places = filled::shorter_of(shorter, due_eras.len());
         let c = joining::check_joining(due_places, our_id, secret_key, plan);
         let read = c.plan;
         let pub_keys = read.pub_keys;
@@ -226,22 +244,32 @@ impl DynamicHoneyBadger {
                     pub_keys,
                     params,
                 );
-                state.join(our_id, read.era, change)
+                state.join(our_id, read.era, change, due_kinds, due_indices, due_eras)
             }
             StartOutcome::Refused(_) => {
                 let state = DynamicHoneyBadger::not_opened(our_id, secret_key);
                 JoinStarted {
                     outcome,
                     state,
-                    due: DueList::empty(),
+                    due: 0,
                 }
             }
         }
     }
 
     // What the plan's change asks of a node that joins.
-    fn join(mut self, our_id: u32, era: u64, state: ChangeState) -> JoinStarted
-        ensures { λ r. ⌜ (r .outcome ≡ Accepted) × (record { state = stateOf (r .state); due = dueOf (r .due) } ≡ joinedBy base «our_id» era (progressOf state) (stateOf self)) ⌝ }
+    fn join(
+        mut self,
+        our_id: u32,
+        era: u64,
+        state: ChangeState,
+        kinds: &mut [u8],
+        indices: &mut [u64],
+        eras: &mut [u64],
+    ) -> JoinStarted
+        ensures { λ r. ⌜ (r .outcome ≡ Accepted) × (record { state = stateOf (r .state); due = r .due } ≡ numbered (joinedBy base «our_id» era (progressOf state) (stateOf self)))
+            × DueIn (joinedBy base «our_id» era (progressOf state) (stateOf self) .due)
+            (now (kinds .entry)) (now (kinds .exit)) (now (indices .entry)) (now (indices .exit)) (now (eras .entry)) (now (eras .exit)) ⌝ }
     {
         let change = state.change;
         let map = change.map;
@@ -251,13 +279,13 @@ impl DynamicHoneyBadger {
             return JoinStarted {
                 outcome: StartOutcome::Accepted,
                 state: self,
-                due: due_part(map, our_id, era),
+                due: due_part(map, our_id, era, kinds, indices, eras),
             };
         }
         JoinStarted {
             outcome: StartOutcome::Accepted,
             state: self,
-            due: DueList::empty(),
+            due: 0,
         }
     }
 

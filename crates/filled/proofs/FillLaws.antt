@@ -1,12 +1,15 @@
 -- A lent list that is filled place by place, and the loop that writes what f says of each element into one, as far as it has places.
 -- Assumes nothing.
 use Prim.Native.Nat.{ℕ, suc, _+_, _≤_, _<_}
-use mathlib.Core.Path.{_≡_, sym, ap, _∙_}
+use mathlib.Core.Path.{_≡_, refl, sym, ap, _∙_}
+use mathlib.Core.Bool.{Bool, true, false}
 use mathlib.Core.List.{List, [], _∷_, _++_, map, map-append, append-assoc}
 use native.Mathlib.Omega.{arith}
 use native.Mathlib.Numerals.{add-one}
+use lib.Dec.{ltb}
 use lib.ListN.{length, take, drop, getD, set, length-append, length-take, length-drop, length-map, drop-of-length-le}
-use lib.Seq.{drop-cons, set-at, take-all, take-append-le, take-nil, take-suc, length-take-le, getD-take}
+use lib.Seq.{drop-cons, set-at, set-out, take-all, take-append-le, take-nil, take-suc, length-take-le, getD-take}
+use borrow.Author.Tests.{ltb-true, ltb-false}
 use Rattle.filled.specs.Filled.{filled}
 
 module _ {B : Type 0} where
@@ -43,6 +46,25 @@ module _ {B : Type 0} where
       let l : length (xs ++ (x ∷ [])) ≡ length xs + 1 = length-append xs (x ∷ []) in
       rw
       (take-append-le (length old) xs (x ∷ []) h, drop-of-length-le old h, drop-of-length-le {A = B} old {i = length (xs ++ (x ∷ []))} (omega arith))
+
+  -- one more, stored at the next place, whether there is one or not
+  pub filled-next : (xs old : List B) (i : ℕ) (x : B) → length xs ≡ i → set (filled xs old) i x ≡ filled (xs ++ (x ∷ [])) old
+  filled-next xs old i x e = go (ltb i (length old)) refl
+    where
+      go : (b : Bool) → ltb i (length old) ≡ b → set (filled xs old) i x ≡ filled (xs ++ (x ∷ [])) old
+      go true t = filled-more xs old i x e (ltb-true i (length old) t)
+      go false t =
+          let k = ltb-false i (length old) t in
+          set-out (filled xs old) i x (omega (arith, length-filled xs old, k)) ∙ filled-full xs old x (omega (arith, e, k))
+
+  -- the first
+  pub filled-first : (old : List B) (x : B) → set old 0 x ≡ filled (x ∷ []) old
+  filled-first old x = ap (λ (ys : List B). set ys 0 x) (sym (filled-none old)) ∙ filled-next [] old 0 x refl
+
+  -- with room for all of them, the list begins with them, and is as it was behind them
+  pub filled-room : (xs old : List B) → length xs ≤ length old → filled xs old ≡ xs ++ drop (length xs) old
+  unfolding filled
+  filled-room xs old h = rw (take-all (length old) xs h)
 
 -- the loop over the elements below a count of an array
 module _ {A B : Type 0} (f : A → B) (array : List A) (count : ℕ) (old : List B) where

@@ -1,1 +1,3 @@
 pub mod FillLaws
+pub mod DueLaws
+pub mod PageLaws

@@ -1,1 +1,65 @@
-// No code: what a lent list holds once values were put into it from its first place on, and the laws of the loops that do so.
+// Lent lists that are filled from the first place on: what they hold, and the laws of the loops that do so; a due item stored at a place of its three lists.
+ghost use mathlib.Core.Path.{_≡_};
+ghost use lib.ListN.{set};
+ghost use Rattle.filled.specs.Filled.{shorter};
+ghost use Rattle.filled.specs.Numbers.{dueNumber, dueProposer, DueAt};
+use due::DueItem;
+use due::DueKind;
+
+// The shorter of two lengths.
+pub fn shorter_of(a: usize, b: usize) -> usize
+    ensures { λ r. ⌜ r ≡ shorter a b ⌝ }
+{
+    if a < b {
+        return a;
+    }
+    b
+}
+
+// A due item's kind as a number.
+pub fn due_number(kind: DueKind) -> u8
+    ensures { λ r. ⌜ r ≡ dueNumber kind ⌝ }
+{
+    match kind {
+        DueKind::Part => 0,
+        DueKind::Ack(_) => 1,
+    }
+}
+
+// The index of the proposer that an ack is for.
+pub fn due_proposer(kind: DueKind) -> u64
+    ensures { λ r. ⌜ r ≡ dueProposer kind ⌝ }
+{
+    match kind {
+        DueKind::Part => 0,
+        DueKind::Ack(i) => i as u64,
+    }
+}
+
+// Stores a byte at a place of a list, where there is one.
+fn put_byte(list: &mut [u8], at: usize, x: u8)
+    ensures { λ _. ⌜ now (list .exit) ≡ set (now (list .entry)) at x ⌝ }
+{
+    if at < list.len() {
+        list[at] = x;
+    }
+}
+
+// The same for a number.
+fn put_number(list: &mut [u64], at: usize, x: u64)
+    ensures { λ _. ⌜ now (list .exit) ≡ set (now (list .entry)) at x ⌝ }
+{
+    if at < list.len() {
+        list[at] = x;
+    }
+}
+
+// Stores a due item at a place of its lists; one that has no such place stays as it is.
+pub fn store_due(item: DueItem, at: usize, kinds: &mut [u8], indices: &mut [u64], eras: &mut [u64])
+    ensures { λ _. ⌜ DueAt item at (now (kinds .entry)) (now (kinds .exit)) (now (indices .entry)) (now (indices .exit)) (now (eras .entry)) (now (eras .exit)) ⌝ }
+{
+    let kind = item.kind;
+    put_byte(kinds, at, due_number(kind));
+    put_number(indices, at, due_proposer(kind));
+    put_number(eras, at, item.era);
+}

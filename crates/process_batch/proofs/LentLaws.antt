@@ -1,10 +1,9 @@
 -- What an answer puts into the lent lists: its faults and due items where it is a report, nothing where it is a refusal.
 -- Assumes nothing.
-use Prim.Native.Nat.{ℕ, _≤_}
+use Prim.Native.Nat.{ℕ}
 use mathlib.Core.Path.{_≡_, sym, ap, _∙_}
-use mathlib.Core.List.{List, _++_, map}
-use lib.ListN.{length, drop}
-use lib.Seq.{take-all}
+use mathlib.Core.List.{List, map}
+use lib.ListN.{length}
 use Rattle.bincode.specs.Outcome.{refused}
 use Rattle.bincode.specs.Sizes.{Sizes}
 use Rattle.fault_log.specs.declared.Fault.{Fault}
@@ -16,8 +15,9 @@ use Rattle.process_output.specs.declared.BatchOutcome.{BatchOutcome}
 use Rattle.process_output.specs.declared.BatchOutcome.the-variants as outcome
 use Rattle.process_output.specs.declared.Processed.{Processed}
 use Rattle.process_output.specs.Process.{ProcessedOf, processed, processedOf, reportOf, saidBatch}
-use Rattle.process_batch.specs.Lent.{filled, shorter, lentCall, faultsIn, dueIn, FaultsFilled, DueFilled}
-use Rattle.process_batch.proofs.FillLaws.{filled-none}
+use Rattle.filled.specs.Filled.{filled, shorter}
+use Rattle.process_batch.specs.Lent.{lentCall, faultsIn, dueIn, FaultsFilled, DueFilled}
+use Rattle.filled.proofs.FillLaws.{filled-none}
 
 -- the places that the comparisons counted are those of the lent lists' call
 pub lent-call :
@@ -58,8 +58,3 @@ refused-faults n ids ids′ kinds kinds′ p = (p .0 ∙ filled-none ids, p .1 �
 pub refused-due : (n : ℕ) (kinds kinds′ indices indices′ eras eras′ : List ℕ) → DueFilled (refused n) kinds kinds′ indices indices′ eras eras′
     → (kinds′ ≡ kinds) × (indices′ ≡ indices) × (eras′ ≡ eras)
 refused-due n kinds kinds′ indices indices′ eras eras′ p = (p .0 ∙ filled-none kinds, p .1 ∙ filled-none indices, p .2 ∙ filled-none eras)
-
--- and of a report for which there is room: the list begins with what was reported, and is as it was behind it
-pub report-written : (xs old : List ℕ) → length xs ≤ length old → filled xs old ≡ xs ++ drop (length xs) old
-unfolding filled
-report-written xs old h = rw (take-all (length old) xs h)

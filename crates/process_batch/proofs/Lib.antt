@@ -1,3 +1,1 @@
-pub mod FillLaws
 pub mod LentLaws
-pub mod PageLaws

@@ -8,43 +8,14 @@ ghost use Rattle.due.specs.Due.{dueOf};
 ghost use Rattle.recipe.specs.Recipe.{NoRecipeEmpty};
 ghost use Rattle.dynamic_honey_badger.specs.State.{stateOf};
 ghost use Rattle.process_output.specs.Process.{processed, processedOf, BatchRefusedKeeps};
-ghost use Rattle.process_batch.specs.Lent.{filled, lentCall, shorter, faultId, kindNumber, dueKind, dueIndex, dueEra, dueNumber, dueProposer, FaultsFilled, DueFilled};
-use due::DueKind;
+ghost use Rattle.filled.specs.Filled.{filled};
+ghost use Rattle.filled.specs.Numbers.{faultId, kindNumber, dueKind, dueIndex, dueEra};
+ghost use Rattle.process_batch.specs.Lent.{lentCall, FaultsFilled, DueFilled};
 use due::DueList;
 use dynamic_honey_badger::DynamicHoneyBadger;
 use fault_log::FaultLog;
 use process_output::BatchOutcome;
 use process_output::Processed;
-
-// The shorter of two lengths.
-fn shorter_of(a: usize, b: usize) -> usize
-    ensures { λ r. ⌜ r ≡ shorter a b ⌝ }
-{
-    if a < b {
-        return a;
-    }
-    b
-}
-
-// A due item's kind as a number.
-fn due_number(kind: DueKind) -> u8
-    ensures { λ r. ⌜ r ≡ dueNumber kind ⌝ }
-{
-    match kind {
-        DueKind::Part => 0,
-        DueKind::Ack(_) => 1,
-    }
-}
-
-// The index of the proposer that an ack is for.
-fn due_proposer(kind: DueKind) -> u64
-    ensures { λ r. ⌜ r ≡ dueProposer kind ⌝ }
-{
-    match kind {
-        DueKind::Part => 0,
-        DueKind::Ack(i) => i as u64,
-    }
-}
 
 // The ids of faults, in order.
 fn write_fault_ids(list: &mut [u32], log: FaultLog)
@@ -87,7 +58,7 @@ fn write_due_kinds(list: &mut [u8], due: DueList)
         if i < list.len() {
             let x = due.items[i];
             let kind = x.kind;
-            list[i] = due_number(kind);
+            list[i] = filled::due_number(kind);
         }
         i += 1;
     }
@@ -103,7 +74,7 @@ fn write_due_indices(list: &mut [u64], due: DueList)
         if i < list.len() {
             let x = due.items[i];
             let kind = x.kind;
-            list[i] = due_proposer(kind);
+            list[i] = filled::due_proposer(kind);
         }
         i += 1;
     }
@@ -142,9 +113,9 @@ pub fn process_batch(
         × DueFilled (processedOf r .answer) (now («due_kinds» .entry)) (now («due_kinds» .exit)) (now («due_indices» .entry)) (now («due_indices» .exit)) (now («due_eras» .entry)) (now («due_eras» .exit))
         × NoRecipeEmpty (r .«has_recipe») (r .recipe) ⌝ }
 {
-    let fault_places = shorter_of(fault_ids.len(), fault_kinds.len());
-    let due_places = shorter_of(
-        shorter_of(due_kinds.len(), due_indices.len()),
+    let fault_places = filled::shorter_of(fault_ids.len(), fault_kinds.len());
+    let due_places = filled::shorter_of(
+        filled::shorter_of(due_kinds.len(), due_indices.len()),
         due_eras.len(),
     );
     let r = process_output::process_output(state, inner, batch, verdicts, fault_places, due_places);

@@ -1,4 +1,4 @@
-// The values of answers as text: faults, due items, recipe, votes, parts, and encoded values as bytes.
+// The values of answers as text: faults, recipe, votes, parts, and encoded values as bytes.
 use crate::fields::field;
 use crate::text::put;
 use crate::text::put_comma;
@@ -7,9 +7,6 @@ use crate::text::put_named;
 use crate::text::put_number;
 use change::Change;
 use change::ChangeState;
-use due::DueItem;
-use due::DueKind;
-use due::DueList;
 use key_gen::KeyGen;
 use key_gen::Proposal;
 use params::Params;
@@ -44,37 +41,6 @@ pub(crate) fn put_fault(out: &mut [u8], at: usize, id: u32, kind: u8) -> usize {
     let a = put_number(out, at, id as u64);
     let b = put(out, a, b":");
     put_kind(out, b, kind)
-}
-
-fn put_due_kind(out: &mut [u8], at: usize, k: DueKind) -> usize {
-    match k {
-        DueKind::Part => put(out, at, b"part"),
-        DueKind::Ack(i) => put_named(out, at, b"ack:", i as u64),
-    }
-}
-
-// A due item as `part@ERA` or `ack:INDEX@ERA`.
-fn put_item(out: &mut [u8], at: usize, d: DueItem) -> usize {
-    let kind = d.kind;
-    let a = put_due_kind(out, at, kind);
-    put_named(out, a, b"@", d.era)
-}
-
-// Due items in order; `-` for none.
-pub(crate) fn put_due(out: &mut [u8], at: usize, list: DueList) -> usize {
-    let n = list.len();
-    if n == 0 {
-        return put(out, at, b"-");
-    }
-    let mut m = at;
-    let mut i: usize = 0;
-    while i < n {
-        let d = list.items[i];
-        m = put_comma(out, m, i);
-        m = put_item(out, m, d);
-        i += 1;
-    }
-    m
 }
 
 // A mark before every item but the first.

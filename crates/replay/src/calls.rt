@@ -1,6 +1,5 @@
 // The calls of a log on one replica. Each answers one line; a line that is no call changes nothing. The checker writes out a large value's type at
 // each step of a function that makes one, so those that make a replica or a host are short.
-use crate::answers::put_due;
 use crate::answers::put_fault;
 use crate::fields::first as first_bytes;
 use crate::parse::Arrival;
@@ -20,7 +19,6 @@ use crate::text::say_first;
 use crate::text::say_word;
 use batch::Batch;
 use change::ChangeState;
-use due::DueList;
 use dynamic_honey_badger::DynamicHoneyBadger;
 use dynamic_honey_badger::Handled;
 use dynamic_honey_badger::Handling;
@@ -80,18 +78,6 @@ fn say_handling(out: &mut [u8], sender: u32, outcome: Handling) -> usize {
 fn say_start(out: &mut [u8], outcome: StartOutcome) -> usize {
     match outcome {
         StartOutcome::Accepted => say_word(out, b"started"),
-        StartOutcome::Refused(k) => refused(out, k),
-    }
-}
-
-// The same of one that joins, with its due items.
-fn say_join(out: &mut [u8], outcome: StartOutcome, due: DueList) -> usize {
-    match outcome {
-        StartOutcome::Accepted => {
-            let a = put(out, 0, b"started due ");
-            let b = put_due(out, a, due);
-            say(out, b)
-        }
         StartOutcome::Refused(k) => refused(out, k),
     }
 }
@@ -201,15 +187,14 @@ impl Host {
     }
 
     fn join(self, id: u32, key: u64, plan: &[u8], places: usize, out: &mut [u8]) -> Self {
-        let r = DynamicHoneyBadger::new_joining(id, key, plan, places);
+        let joined = crate::join::join(id, key, plan, places, out);
+        let r = joined.started;
         let outcome = r.outcome;
-        let due = r.due;
-        let said = say_join(out, outcome, due);
         if accepted(outcome) {
             let replica = r.state;
-            return self.begin(replica, said);
+            return self.begin(replica, joined.said);
         }
-        self.saying(said)
+        self.saying(joined.said)
     }
 
     fn first_call(self, s: Start, first: &[u8], second: &[u8], out: &mut [u8]) -> Self {

@@ -29,7 +29,7 @@ pub struct Answered {
 }
 
 // A length that a line names.
-fn places(n: usize) -> usize
+pub(crate) fn places(n: usize) -> usize
     ensures { λ r. ⌜ r ≤ 2000 ⌝ }
 {
     if n < PLACES { n } else { PLACES }
@@ -92,7 +92,7 @@ fn put_item_at(
 }
 
 // The first n due items of the lists; `-` for none.
-fn put_due(
+pub(crate) fn put_due(
     out: &mut [u8],
     at: usize,
     kinds: &[u8],

@@ -208,7 +208,17 @@ fn start_joining(report: Batch) -> JoinStarted {
     let own = batches::node(7);
     let mut plan = [0u8; JoinPlan::BYTES];
     let n = plan_bytes(report.join_plan(&mut plan, 1));
-    DynamicHoneyBadger::new_joining(7, own.key, batches::first(&plan, n), DueList::LIMIT)
+    let mut due_kinds = [0u8; DueList::LIMIT];
+    let mut due_indices = [0u64; DueList::LIMIT];
+    let mut due_eras = [0u64; DueList::LIMIT];
+    DynamicHoneyBadger::new_joining(
+        7,
+        own.key,
+        batches::first(&plan, n),
+        &mut due_kinds,
+        &mut due_indices,
+        &mut due_eras,
+    )
 }
 
 // Says that a replica joined, where it stands where the first stands.

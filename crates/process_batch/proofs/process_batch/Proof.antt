@@ -4,7 +4,8 @@ use denote.Ref.{now}
 use Rattle.bincode.specs.Sizes.{base}
 use Rattle.dynamic_honey_badger.specs.State.{stateOf}
 use Rattle.process_output.specs.Process.{processed, processedOf}
-use Rattle.process_batch.specs.Lent.{lentCall, faultId, kindNumber, dueKind, dueIndex, dueEra}
+use Rattle.filled.specs.Numbers.{faultId, kindNumber, dueKind, dueIndex, dueEra}
+use Rattle.process_batch.specs.Lent.{lentCall}
 use Rattle.process_batch.proofs.LentLaws.{lent-call, faults-kept, due-kept, faults-written, due-written}
 use Rattle.process_batch.proofs.process_batch.Statement.{statement}
 use Rattle.process_batch.proofs.process_batch.Tie as tie

@@ -5,8 +5,8 @@ use mathlib.Core.Logic.{⊎-elim}
 use native.Mathlib.Omega.{arith}
 use lib.ListN.{length, take}
 use Rattle.fault_log.specs.FaultLog.{noFault}
-use Rattle.process_batch.specs.Lent.{faultId}
-use Rattle.process_batch.proofs.FillLaws.{FilledTo, fill-length, fill-start, fill-store, fill-past, fill-end}
+use Rattle.filled.specs.Numbers.{faultId}
+use Rattle.filled.proofs.FillLaws.{FilledTo, fill-length, fill-start, fill-store, fill-past, fill-end}
 use Rattle.process_batch.proofs.write_fault_ids.Statement.{statement}
 use Rattle.process_batch.proofs.write_fault_ids.Tie as tie
 

@@ -1,16 +1,20 @@
 use borrow.Author.Needs.{needs}
-use mathlib.Core.Path.{sym, ap, _∙_}
+use mathlib.Core.Path.{ap, _∙_}
+use denote.Ref.{now}
 use Rattle.bincode.specs.Sizes.{base}
-use Rattle.due.specs.Due.{dueOf}
+use Rattle.filled.proofs.DueLaws.{due-same, places-counted}
 use Rattle.join_plan.specs.JoinPlan.{planOf}
-use Rattle.joining.specs.declared.StartOutcome.{StartOutcome}
-use Rattle.joining.specs.Starting.{saidStart}
-use Rattle.joining.proofs.StartLaws.{accepted-not-refused}
 use Rattle.dynamic_honey_badger.specs.declared.DynamicHoneyBadger.{DynamicHoneyBadger}
-use Rattle.dynamic_honey_badger.specs.State.{stateOf, Joined, joinedBy, joinedWith, joinedFrom, joined}
-use Rattle.dynamic_honey_badger.proofs.StateLaws.{join-said, join-denied}
+use Rattle.dynamic_honey_badger.specs.State.{stateOf, Joined, joinedBy, joinedWith, numbered}
+use Rattle.dynamic_honey_badger.proofs.JoinLaws.{joined-lent, refused-lent}
 use Rattle.dynamic_honey_badger.proofs.DynamicHoneyBadger.new_joining.Statement.{statement}
 use Rattle.dynamic_honey_badger.proofs.DynamicHoneyBadger.new_joining.Tie as tie
+
+shorter-of-requires : tie.Need-shorter-of-requires
+shorter-of-requires c κs = search needs
+
+shorter-of-requires-2 : tie.Need-shorter-of-requires-2
+shorter-of-requires-2 c κs = search needs
 
 check-joining-requires : tie.Need-check-joining-requires
 check-joining-requires c κs = search needs
@@ -30,41 +34,51 @@ enum-told-2 c = search needs
 not-opened-requires : tie.Need-not-opened-requires
 not-opened-requires c κs = search needs
 
-empty-requires : tie.Need-empty-requires
-empty-requires c κs = search needs
+same-length : tie.Need-same-length
+same-length c = search needs
+
+same-length-2 : tie.Need-same-length-2
+same-length-2 c = search needs
+
+same-length-3 : tie.Need-same-length-3
+same-length-3 c = search needs
 
 returns : tie.Need-returns
-unfolding joined joinedWith
+unfolding joinedWith
 returns c =
-    let a = c .before .before .before .before .before .before .before .before .before .before .args in
-    let r = c .before .before .before .before .before .before .before .before .check-joining in
-    let o = r .result .outcome in
+    let a = c .before .before .before .before .before .before .before .before .before .before .before .before .before .before .before .before .before .before .before .before .before .before .before .before .args in
+    let r = c .before .before .before .before .before .before .before .before .before .before .before .before .before .before .before .before .before .check-joining in
     let p = planOf (r .result .plan) in
-    let j : Joined = record { state = stateOf (c .join .result .state); due = dueOf (c .join .result .due) } in (
-      ap (λ (o : StartOutcome). saidStart o j) (c .join .ensures .0 ∙ sym (c .before .before .enum-told .given .1))
-          ∙ ap (λ (j : Joined). saidStart o j) (c .join .ensures .1 ∙ ap (λ (s : DynamicHoneyBadger). joinedBy base (a .our-id) (p .era) (p .change) (stateOf s)) (c .before .«open» .ensures))
-          ∙ join-said base (a .our-id) (a .secret-key) o p
-          ∙ ap (joinedFrom base (a .our-id) (a .secret-key)) (r .ensures .0),
-      λ n e. absurd (accepted-not-refused n (sym (c .join .ensures .0) ∙ e)),
-    )
+    let j = c .before .before .before .before .before .before .join in
+    let opens = ap (λ (s : DynamicHoneyBadger). joinedBy base (a .our-id) (p .era) (p .change) (stateOf s)) (c .before .before .before .before .before .before .before .before .before .before .«open» .ensures) in
+    joined-lent base (a .our-id) (a .secret-key) _ (now (a .plan)) (now (a .due-kinds)) (now (a .due-indices)) (now (a .due-eras))
+    (places-counted (now (a .due-kinds)) (now (a .due-indices)) (now (a .due-eras)) _ _ (c .before .before .before .before .before .before .before .before .before .before .before .before .before .before .before .before .before .before .before .shorter-of .ensures) (c .before .before .before .before .before .before .before .before .before .before .before .before .before .before .before .before .before .before .shorter-of2 .ensures))
+    (r .result .outcome) p (r .ensures .0) (c .before .before .before .before .before .before .before .before .before .before .before .enum-told .given .1) (j .result) _ _ _ (j .ensures .0)
+    (j .ensures .1 ∙ ap numbered opens)
+    (due-same (now (a .due-kinds)) _ (now (a .due-indices)) _ (now (a .due-eras)) _ _ _ (ap (λ (x : Joined). x .due) opens) (j .ensures .2))
 
 returns-2 : tie.Need-returns-2
-unfolding joined
 returns-2 c =
-    let a = c .before .before .before .before .before .before .before .before .before .before .args in
-    let r = c .before .before .before .before .before .before .before .before .check-joining in
-    (join-denied base (a .our-id) (a .secret-key) _ (r .result .outcome) (planOf (r .result .plan)) _ (c .before .before .enum-told2 .given .1) ∙ ap (joinedFrom base (a .our-id) (a .secret-key)) (r .ensures .0), λ n e. rw (c .before .not-opened .ensures, c .empty .ensures, e))
+    let a = c .before .before .before .before .before .before .before .before .before .before .before .before .before .before .args in
+    let r = c .before .before .before .before .before .before .before .check-joining in
+    refused-lent base (a .our-id) (a .secret-key) _ (now (a .plan)) (now (a .due-kinds)) (now (a .due-indices)) (now (a .due-eras))
+    (places-counted (now (a .due-kinds)) (now (a .due-indices)) (now (a .due-eras)) _ _ (c .before .before .before .before .before .before .before .before .before .shorter-of .ensures) (c .before .before .before .before .before .before .before .before .shorter-of2 .ensures))
+    (r .result .outcome) (planOf (r .result .plan)) (r .ensures .0) _ (c .before .enum-told2 .given .1) _ (c .not-opened .ensures)
 
 pub new-joining-spec : {M : Type 1} → statement M
 new-joining-spec =
     tie.close
     (tie.spec
+    shorter-of-requires
+    shorter-of-requires-2
     check-joining-requires
     enum-told
     open-requires
     join-requires
     enum-told-2
     not-opened-requires
-    empty-requires
+    same-length
+    same-length-2
+    same-length-3
     returns
     returns-2)

@@ -1,6 +1,6 @@
 use borrow.Author.Tests.{lt-ltb, le-ltb}
-use Rattle.process_batch.proofs.shorter_of.Statement.{statement}
-use Rattle.process_batch.proofs.shorter_of.Tie as tie
+use Rattle.filled.proofs.shorter_of.Statement.{statement}
+use Rattle.filled.proofs.shorter_of.Tie as tie
 
 returns : tie.Need-returns
 returns c = rw (lt-ltb _ _ (c .if1 .taken))
