@@ -5,6 +5,7 @@ ghost use Prim.Native.Nat.{_+_, _*_, _≤_};
 ghost use lib.ListN.{length};
 ghost use Rattle.bincode.specs.Read.{refuse, numberOf, whole};
 ghost use Rattle.bincode.specs.Numbers.{fixed};
+ghost use Rattle.bincode.specs.Answer.{stepOf};
 ghost use Rattle.bincode.specs.Sizes.{base};
 ghost use Rattle.bincode.specs.Writing.{written, writtenTo};
 ghost use Rattle.pub_key_map.specs.PubKeyMap.{nodesOf, mapHeld, sameNode, sameNodes, readNode, readMap, saidNode, mapAnswer, nodeBytes, mapBytes};
@@ -175,6 +176,31 @@ pub fn read_map(s: &[u8], at: usize) -> ReadMap
         step: Step::Next(c),
         map: PubKeyMap { count, nodes },
     }
+}
+
+// A map that is passed over: ids and keys are tested, none is kept.
+pub fn check_map(s: &[u8], at: usize) -> Step
+    ensures { λ r. ⌜ r ≡ stepOf (readMap fixed base (now (s .entry)) at) ⌝ }
+{
+    let ReadU64::Value(count, first) = bincode::read_u64(s, at) else {
+        return Step::Refused(2);
+    };
+    if (PubKeyMap::LIMIT as u64) < count {
+        return Step::Refused(3);
+    }
+    let mut low: u64 = 0;
+    let mut c = first;
+    let mut i: u64 = 0;
+    while i < count {
+        let r = read_node(s, c, low);
+        let ReadNode::Value(node, next) = r else {
+            return Step::Refused(r.number());
+        };
+        low = node.id as u64 + 1;
+        c = next;
+        i += 1;
+    }
+    Step::Next(c)
 }
 
 // A map that is a whole input: nothing may be left over.
