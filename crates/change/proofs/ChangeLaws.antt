@@ -10,11 +10,13 @@ use lib.ListN.{length, length-append}
 use borrow.Author.Tests.{ne-eqb, eqb-false}
 use Rattle.lists.proofs.ListLaws.{false-true, take-padded}
 use Rattle.bincode.specs.Numbers.{fixed, bytesOf, readNum}
-use Rattle.bincode.specs.Read.{Read, value, refuse}
+use Rattle.bincode.specs.Read.{Read, value, refuse, bind}
+use Rattle.bincode.specs.Answer.{stepOf}
 use Rattle.bincode.specs.Stands.{concat}
 use Rattle.bincode.specs.Sizes.{Sizes, base}
 use Rattle.bincode.proofs.NumberLaws.{length-bytesOf}
-use Rattle.pub_key_map.specs.PubKeyMap.{noNode, mapBytes}
+use Rattle.pub_key_map.specs.declared.Node.{Node}
+use Rattle.pub_key_map.specs.PubKeyMap.{noNode, readMap, mapBytes}
 use Rattle.pub_key_map.proofs.MapLaws.{map-true, map-refl}
 use Rattle.honey_badger.specs.EncryptionSchedule.{scheduleBytes}
 use Rattle.honey_badger.proofs.ScheduleLaws.{schedule-true, schedule-refl}
@@ -68,6 +70,15 @@ pub held-state : (x : ChangeStateOf) → stateOf (stateHeld x) ≡ x
 held-state none = refl
 held-state (inProgress c) = ap inProgress (held-change c)
 held-state (complete c) = ap complete (held-change c)
+
+-- a change with a map behind its tag goes on, or is refused, as the map does
+pub step-map : (z : Sizes) (s : List ℕ) (at t c : ℕ) → readNum 4 s at ≡ value t c → t ≡ 0 → stepOf (readMap fixed z s c) ≡ stepOf (readChange fixed z s at)
+unfolding readChange
+step-map z s at t c r e = rw (r, e) (go (readMap fixed z s c))
+  where
+    go : (x : Read (List Node)) → stepOf x ≡ stepOf (bind x (λ ns d. value (nodeChange ns) d))
+    go (value ns d) = refl
+    go (refuse n) = refl
 
 -- reading a state goes by its tag
 module _ (z : Sizes) (s : List ℕ) (at t c : ℕ) (r : readNum 4 s at ≡ value t c) where

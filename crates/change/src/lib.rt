@@ -5,6 +5,7 @@ ghost use Prim.Native.Nat.{_+_, _*_, _≤_};
 ghost use lib.ListN.{length};
 ghost use Rattle.bincode.specs.Read.{refuse, whole};
 ghost use Rattle.bincode.specs.Numbers.{fixed, bytesOf};
+ghost use Rattle.bincode.specs.Answer.{stepOf};
 ghost use Rattle.bincode.specs.Stands.{concat};
 ghost use Rattle.bincode.specs.Sizes.{base};
 ghost use Rattle.bincode.specs.Writing.{written, writtenTo};
@@ -168,6 +169,26 @@ pub fn read_change(s: &[u8], at: usize) -> ReadChange
         };
     }
     refused_change(2)
+}
+
+// A change that is passed over: nothing of it is kept.
+pub fn check_change(s: &[u8], at: usize) -> Step
+    ensures { λ r. ⌜ r ≡ stepOf (readChange fixed base (now (s .entry)) at) ⌝ }
+{
+    let ReadU32::Value(tag, c) = bincode::read_u32(s, at) else {
+        return Step::Refused(2);
+    };
+    if tag == 0 {
+        return pub_key_map::check_map(s, c);
+    }
+    if tag == 1 {
+        let x = honey_badger::read_schedule(s, c);
+        let ReadSchedule::Value(_, d) = x else {
+            return Step::Refused(x.number());
+        };
+        return Step::Next(d);
+    }
+    Step::Refused(2)
 }
 
 // A change that is a whole input: nothing may be left over.
