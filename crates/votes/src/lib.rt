@@ -5,6 +5,7 @@ ghost use lib.ListN.{length};
 ghost use Rattle.bincode.specs.Read.{refuse};
 ghost use Rattle.bincode.specs.Sizes.{base};
 ghost use Rattle.bincode.specs.Writing.{written, writtenTo};
+ghost use Rattle.votes.specs.VoteHead.{headAnswer};
 ghost use Rattle.votes.specs.Votes.{voteOf, voteHeld, noVote, readVote, voteAnswer, voteBytes, signedOf, signedHeld, noSigned, readSignedVote, signedAnswer, signedBytes};
 use bincode::ReadU32;
 use bincode::ReadU64;
@@ -121,6 +122,64 @@ pub fn read_signed_vote(s: &[u8], at: usize) -> ReadSignedVote
     ReadSignedVote {
         step: Step::Next(c),
         signed: SignedVote { vote, voter, sig },
+    }
+}
+
+// A signed vote without its change.
+pub struct VoteHead {
+    pub era: u64,
+    pub num: u64,
+    pub voter: u32,
+    pub sig: u64,
+}
+
+pub struct ReadVoteHead {
+    pub step: Step,
+    pub head: VoteHead,
+}
+
+fn refused_head(n: u8) -> ReadVoteHead
+    ensures { λ r. ⌜ r ≡ headAnswer (refuse n) ⌝ }
+{
+    ReadVoteHead {
+        step: Step::Refused(n),
+        head: VoteHead {
+            era: 0,
+            num: 0,
+            voter: 0,
+            sig: 0,
+        },
+    }
+}
+
+// The change is tested and not kept, so that no map is copied where the numbers alone are asked for.
+pub fn read_vote_head(s: &[u8], at: usize) -> ReadVoteHead
+    ensures { λ r. ⌜ r ≡ headAnswer (readSignedVote base (now (s .entry)) at) ⌝ }
+{
+    let step = change::check_change(s, at);
+    let Step::Next(a) = step else {
+        return refused_head(step.number());
+    };
+    let ReadU64::Value(era, b) = bincode::read_u64(s, a) else {
+        return refused_head(2);
+    };
+    let ReadU64::Value(num, c) = bincode::read_u64(s, b) else {
+        return refused_head(2);
+    };
+    let ReadU32::Value(voter, d) = bincode::read_u32(s, c) else {
+        return refused_head(2);
+    };
+    let ReadU64::Value(sig, e) = bincode::read_u64(s, d) else {
+        return refused_head(2);
+    };
+    ReadVoteHead {
+        step: Step::Next(e),
+        head: VoteHead {
+            era,
+            num,
+            voter,
+            sig,
+        },
     }
 }
 
