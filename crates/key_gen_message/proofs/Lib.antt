@@ -1,3 +1,4 @@
 pub mod MessageLaws
 pub mod MessageCodes
 pub mod MessageCauses
+pub mod HeadLaws

@@ -1,2 +1,3 @@
 pub mod KeyGenMessage
+pub mod Head
 pub mod MessageCauses

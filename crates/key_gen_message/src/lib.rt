@@ -2,10 +2,12 @@
 ghost use mathlib.Core.Path.{_≡_};
 ghost use Prim.Native.Nat.{_+_, _*_, _≤_};
 ghost use lib.ListN.{length};
-ghost use Rattle.bincode.specs.Read.{refuse};
+ghost use Rattle.bincode.specs.Read.{refuse, mapRead};
+ghost use Rattle.bincode.specs.Answer.{said64};
 ghost use Rattle.bincode.specs.Sizes.{base};
 ghost use Rattle.bincode.specs.Writing.{written, writtenTo};
-ghost use Rattle.sync_key_gen.specs.SyncKeyGen.{partOf, ackOf, handlesOf};
+ghost use Rattle.sync_key_gen.specs.SyncKeyGen.{partOf, ackOf, handlesOf, readHandles};
+ghost use Rattle.key_gen_message.specs.Head.{bodyOf, saidBody, headAnswer};
 ghost use Rattle.key_gen_message.specs.KeyGenMessage.{part, ack, messageOf, messageHeld, noMessage, sameHeaded, sameMessage, readKeyGenMessage, messageAnswer, taggedBytes, messageBytes, signedOf, signedHeld, noSigned, sameSigned, readSignedKeyGenMsg, signedAnswer, signedBytes};
 use bincode::ReadU32;
 use bincode::ReadU64;
@@ -219,6 +221,123 @@ pub fn read_signed(s: &[u8], at: usize) -> ReadSigned
             message,
             sig,
         },
+    }
+}
+
+// Whether a message is a part, its commitment or proposer's index, and how many rows or values it has.
+pub struct Body {
+    pub part: bool,
+    pub first: u64,
+    pub count: u64,
+}
+
+pub enum ReadBody {
+    Value(Body, usize),
+    Refused(u8),
+}
+
+// A signed message without its rows or values.
+pub struct MessageHead {
+    pub era: u64,
+    pub id: u32,
+    pub part: bool,
+    pub first: u64,
+    pub count: u64,
+    pub sig: u64,
+}
+
+pub struct ReadHead {
+    pub step: Step,
+    pub head: MessageHead,
+}
+
+// How many rows or values there are: they are any numbers, so their room alone is tested.
+fn skip_handles(s: &[u8], at: usize) -> ReadU64
+    ensures { λ r. ⌜ said64 r ≡ mapRead length (readHandles base (now (s .entry)) at) ⌝ }
+{
+    let ReadU64::Value(n, c) = bincode::read_u64(s, at) else {
+        return ReadU64::Refused(2);
+    };
+    if (Handles::LIMIT as u64) < n {
+        return ReadU64::Refused(3);
+    }
+    let size = 8 * (n as usize);
+    if bincode::room(s.len(), c, size) {
+        ReadU64::Value(n, c + size)
+    } else {
+        ReadU64::Refused(2)
+    }
+}
+
+fn read_body(s: &[u8], at: usize) -> ReadBody
+    ensures { λ r. ⌜ saidBody r ≡ mapRead bodyOf (readKeyGenMessage base (now (s .entry)) at) ⌝ }
+{
+    let ReadU32::Value(tag, c) = bincode::read_u32(s, at) else {
+        return ReadBody::Refused(2);
+    };
+    if 1 < tag {
+        return ReadBody::Refused(2);
+    }
+    let ReadU64::Value(first, d) = bincode::read_u64(s, c) else {
+        return ReadBody::Refused(2);
+    };
+    match skip_handles(s, d) {
+        ReadU64::Value(count, e) => ReadBody::Value(
+            Body {
+                part: tag == 0,
+                first,
+                count,
+            },
+            e,
+        ),
+        ReadU64::Refused(k) => ReadBody::Refused(k),
+    }
+}
+
+fn refused_head(n: u8) -> ReadHead
+    ensures { λ r. ⌜ r ≡ headAnswer (refuse n) ⌝ }
+{
+    ReadHead {
+        step: Step::Refused(n),
+        head: MessageHead {
+            era: 0,
+            id: 0,
+            part: true,
+            first: 0,
+            count: 0,
+            sig: 0,
+        },
+    }
+}
+
+// Rows and values are tested and not kept, so that no array is copied where the numbers alone are asked for.
+pub fn read_head(s: &[u8], at: usize) -> ReadHead
+    ensures { λ r. ⌜ r ≡ headAnswer (readSignedKeyGenMsg base (now (s .entry)) at) ⌝ }
+{
+    let ReadU64::Value(era, a) = bincode::read_u64(s, at) else {
+        return refused_head(2);
+    };
+    let ReadU32::Value(id, b) = bincode::read_u32(s, a) else {
+        return refused_head(2);
+    };
+    match read_body(s, b) {
+        ReadBody::Value(body, c) => {
+            let ReadU64::Value(sig, d) = bincode::read_u64(s, c) else {
+                return refused_head(2);
+            };
+            ReadHead {
+                step: Step::Next(d),
+                head: MessageHead {
+                    era,
+                    id,
+                    part: body.part,
+                    first: body.first,
+                    count: body.count,
+                    sig,
+                },
+            }
+        }
+        ReadBody::Refused(k) => refused_head(k),
     }
 }
 
