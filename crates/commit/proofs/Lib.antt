@@ -1,4 +1,3 @@
-pub mod PartLaws
 pub mod ReadableLaws
 pub mod WorkLaws
 pub mod TurnLaws

@@ -11,7 +11,7 @@ use Rattle.bincode.specs.Items.{items}
 use Rattle.bincode.proofs.ItemLaws.{uncons}
 use Rattle.internal_contrib.specs.InternalContrib.{ContribOf, readContrib, readBatch, spending, opening}
 use Rattle.commit.specs.Readable.{readable, readableContribs}
-use Rattle.commit.proofs.PartLaws.{batch-count}
+use Rattle.internal_contrib.proofs.PartLaws.{batch-count}
 
 module _ {S A : Type 0} (rd : S → ℕ → Read A) (next : S → A → S) where
   module _ (n i : ℕ) (st : S) (at : ℕ) where

@@ -1,6 +1,6 @@
 -- Laws of a batch: one contribution more, the place of a node's user bytes, and what an accepted batch shows.
 -- Assumes nothing.
-use Prim.Native.Nat.{ℕ, _+_, _^_, _≤_, _<_}
+use Prim.Native.Nat.{ℕ, suc, _+_, _^_, _≤_, _<_}
 use mathlib.Core.Path.{_≡_, refl, sym, ap, _∙_, subst}
 use mathlib.Core.List.{List, [], _∷_, _++_}
 use mathlib.Core.Bool.{Bool, true, false, cond}
@@ -9,19 +9,23 @@ use native.Mathlib.Nat.{add-zero}
 use lib.Dec.{eqb}
 use lib.ListN.{length, take, drop, length-append}
 use borrow.Author.Tests.{lt-ltb, le-ltb}
+use Rattle.lists.specs.Lists.{found, lookup}
+use Rattle.lists.proofs.ListLaws.{take-padded}
 use Rattle.bincode.specs.Read.{Read, value, refuse, whole}
 use Rattle.bincode.specs.Numbers.{bytesOf}
 use Rattle.bincode.specs.Outcome.{done, refused}
-use Rattle.bincode.specs.Sizes.{Sizes}
+use Rattle.bincode.specs.Sizes.{Sizes, base}
 use Rattle.bincode.specs.Stands.{Bytes, Stands, concatMap}
 use Rattle.bincode.proofs.NumberLaws.{length-bytesOf}
 use Rattle.bincode.proofs.ItemLaws.{foldl-more}
 use Rattle.bincode.proofs.StandLaws.{stands-left, stands-right, stands-self}
-use Rattle.internal_contrib.specs.declared.UserPlace.{UserPlace}
-use Rattle.internal_contrib.specs.declared.Walk.{Walk}
-use Rattle.internal_contrib.specs.declared.Walk.the-variants as walk
+use Rattle.internal_contrib.specs.declared.Contrib.{Contrib}
+use Rattle.internal_contrib.specs.declared.BatchIndex.{BatchIndex}
+use Rattle.internal_contrib.specs.declared.CheckBatch.{CheckBatch}
+use Rattle.internal_contrib.specs.declared.CheckBatch.the-variants as check
 use Rattle.internal_contrib.specs.InternalContrib.{ContribOf, readContribs, readBatch, contribBytes, batchBytes}
-use Rattle.internal_contrib.specs.Places.{saidPlace, saidWalk, placed, at-place, no-place, placeFrom, sawPlace, messageCount, userIn, hasId, Walked, walked}
+use Rattle.internal_contrib.specs.Places.{placed, Place, at-place, no-place, placeFrom, messageCount, userIn, hasId, userOf, startAt, startIn, checked, saidCheck}
+use Rattle.internal_contrib.specs.Index.{contribsIn, noContrib, indexHeld, contribId, placedFrom, placedIn, placeBy, placeIn}
 use Rattle.internal_contrib.proofs.ContribLaws.{user-within, user-stands}
 use Rattle.internal_contrib.proofs.ContribCodes.{batch-one-encoding}
 
@@ -44,21 +48,30 @@ pub length-more : (cs : List ContribOf) (x : ContribOf) → length (concatMap co
 length-more [] x = simp length-append (omega arith)
 length-more (c ∷ cs) x = simp (length-append, length-more cs x) (omega arith)
 
-pub place-more : (at : ℕ) (cs : List ContribOf) (x : ContribOf) (id : ℕ)
-    → sawPlace (placeFrom at cs id) (placed (at + length (concatMap contribBytes cs)) x) id ≡ placeFrom at (cs ++ (x ∷ [])) id
-unfolding placeFrom
-place-more at [] x id = rw add-zero
-place-more at (c ∷ cs) x id = go (eqb (c .id) id) (place-more (at + length (contribBytes c)) cs x id)
+-- what is kept of contributions that stand one behind the other
+pub placed-more : (at : ℕ) (cs : List ContribOf) (x : ContribOf) → placedFrom at (cs ++ (x ∷ [])) ≡ placedFrom at cs ++ (placed (at + length (concatMap contribBytes cs)) x ∷ [])
+unfolding placedFrom
+placed-more at [] x = rw add-zero
+placed-more at (c ∷ cs) x =
+    let e : at + length (contribBytes c ++ concatMap contribBytes cs) ≡ at + length (contribBytes c) + length (concatMap contribBytes cs) = simp length-append (omega arith) in
+    rw e (ap (λ (ks : List Contrib). placed at c ∷ ks) (placed-more (at + length (contribBytes c)) cs x))
+
+pub length-placed : (at : ℕ) (cs : List ContribOf) → length (placedFrom at cs) ≡ length cs
+unfolding placedFrom
+length-placed at [] = refl
+length-placed at (c ∷ cs) = ap suc (length-placed (at + length (contribBytes c)) cs)
+
+-- the place of a node's user bytes is found by what is kept
+pub place-kept : (at : ℕ) (cs : List ContribOf) (id : ℕ) → placeIn (placedFrom at cs) id ≡ placeFrom at cs id
+unfolding placedFrom placeFrom lookup
+place-kept at [] id = refl
+place-kept at (c ∷ cs) id = go (eqb (c .id) id) (place-kept (at + length (contribBytes c)) cs id)
   where
-    go : (b : Bool)
-        → sawPlace (placeFrom (at + length (contribBytes c)) cs id) (placed (at + length (contribBytes c) + length (concatMap contribBytes cs)) x) id
-        ≡ placeFrom (at + length (contribBytes c)) (cs ++ (x ∷ [])) id
-        → sawPlace (cond b (at-place (at + 12) (length (c .user))) (placeFrom (at + length (contribBytes c)) cs id)) (placed (at + length (contribBytes c ++ concatMap contribBytes cs)) x) id
-        ≡ cond b (at-place (at + 12) (length (c .user))) (placeFrom (at + length (contribBytes c)) (cs ++ (x ∷ [])) id)
+    go : (b : Bool) → placeIn (placedFrom (at + length (contribBytes c)) cs) id ≡ placeFrom (at + length (contribBytes c)) cs id
+        → placeBy (cond b (found (placed at c)) (lookup contribId (placedFrom (at + length (contribBytes c)) cs) id))
+        ≡ cond b (at-place (at + 12) (length (c .user))) (placeFrom (at + length (contribBytes c)) cs id)
     go true h = refl
-    go false h =
-        let e : at + length (contribBytes c ++ concatMap contribBytes cs) ≡ at + length (contribBytes c) + length (concatMap contribBytes cs) = simp length-append (omega arith) in
-        rw e h
+    go false h = h
 
 -- not both a place and none
 pub place-clash : {start n : ℕ} → at-place start n ≡ no-place → ⊥
@@ -104,26 +117,47 @@ place-none at (c ∷ cs) id p = go (eqb (c .id) id) (place-none (at + length (co
     go true h q = absurd (place-clash q)
     go false h q = h q
 
--- what a walk tells of the reading that it came from
-module _ (id : ℕ) where
-  walked-done : (x : Read (List ContribOf)) (w : Walked) → done w ≡ walked id x
-      → (cs : List ContribOf) × (c : ℕ) × (x ≡ value cs c) × (w .messages ≡ messageCount cs) × (w .place ≡ placeFrom 8 cs id)
-  walked-done (value cs c) w p =
-      let e : w ≡ record { messages = messageCount cs; place = placeFrom 8 cs id } = cc in
-      (cs, c, refl, ap (λ (v : Walked). v .messages) e, ap (λ (v : Walked). v .place) e)
-  walked-done (refuse k) w p = let z : _≡_ {A = ℕ} 0 1 = cc in absurd (let y : ⊥ = omega arith in y)
+-- the place of a node's user bytes in a batch, if it is read and has one
+abbrev pub placeOf : Read (List ContribOf) → ℕ → Place
+placeOf (value cs c) id = placeFrom 8 cs id
+placeOf (refuse n) id = no-place
 
-  walked-refused : (x : Read (List ContribOf)) (n : ℕ) → refused n ≡ walked id x → x ≡ refuse n
-  walked-refused (value cs c) n p = let z : _≡_ {A = ℕ} 0 1 = cc in absurd (let y : ⊥ = omega arith in y)
-  walked-refused (refuse k) n p = let e : k ≡ n = cc in ap refuse e
+-- an index that holds what was kept gives it back, and the place is found by it
+pub held-index : (ks : List Contrib) → contribsIn (indexHeld ks) ≡ ks
+held-index ks = take-padded (base .nodes) noContrib ks
 
-  module _ (x : Read (List ContribOf)) (r : Walk) (e : saidWalk r ≡ walked id x) where
-    pub walk-value : (n : ℕ) (p : UserPlace) → r ≡ walk.Done n p
-        → (cs : List ContribOf) × (c : ℕ) × (x ≡ value cs c) × (n ≡ messageCount cs) × (saidPlace p ≡ placeFrom 8 cs id)
-    walk-value n p q = walked-done x _ (sym (ap saidWalk q) ∙ e)
+pub index-place : (x : Read (List ContribOf)) (i : BatchIndex) → i ≡ indexHeld (placedIn x) → (id : ℕ) → placeIn (contribsIn i) id ≡ placeOf x id
+unfolding lookup
+index-place x i e id = ap (λ (y : BatchIndex). placeIn (contribsIn y) id) e ∙ ap (λ (ks : List Contrib). placeIn ks id) (held-index (placedIn x)) ∙ go x
+  where
+    go : (y : Read (List ContribOf)) → placeIn (placedIn y) id ≡ placeOf y id
+    go (value cs c) = place-kept 8 cs id
+    go (refuse n) = refl
 
-    pub walk-refuse : (n : ℕ) → r ≡ walk.Refused n → x ≡ refuse n
-    walk-refuse n q = walked-refused x n (sym (ap saidWalk q) ∙ e)
+-- what the place tells of the batch
+pub place-read : (x : Read (List ContribOf)) (id start n : ℕ) → placeOf x id ≡ at-place start n → (cs : List ContribOf) × (c : ℕ) × (x ≡ value cs c) × (placeFrom 8 cs id ≡ at-place start n)
+place-read (value cs c) id start n p = (cs, c, refl, p)
+place-read (refuse k) id start n p = absurd (place-clash (sym p))
+
+pub place-empty : (s : List ℕ) (x : Read (List ContribOf)) (id : ℕ) → placeOf x id ≡ no-place → (userOf x id ≡ []) × (startIn s x id ≡ length s)
+place-empty s (value cs c) id p = (place-none 8 cs id p .1, ap (startAt s) p)
+place-empty s (refuse n) id p = (refl, refl)
+
+-- what an answer tells of the reading that it came from
+checked-done : (x : Read (List ContribOf)) (n : ℕ) → done n ≡ checked x → (cs : List ContribOf) × (c : ℕ) × (x ≡ value cs c) × (n ≡ messageCount cs)
+checked-done (value cs c) n p = (cs, c, refl, cc)
+checked-done (refuse k) n p = let z : _≡_ {A = ℕ} 0 1 = cc in absurd (let y : ⊥ = omega arith in y)
+
+checked-refused : (x : Read (List ContribOf)) (n : ℕ) → refused n ≡ checked x → x ≡ refuse n
+checked-refused (value cs c) n p = let z : _≡_ {A = ℕ} 0 1 = cc in absurd (let y : ⊥ = omega arith in y)
+checked-refused (refuse k) n p = let e : k ≡ n = cc in ap refuse e
+
+module _ (x : Read (List ContribOf)) (r : CheckBatch) (e : saidCheck r ≡ checked x) where
+  pub check-value : (n : ℕ) → r ≡ check.Messages n → (cs : List ContribOf) × (c : ℕ) × (x ≡ value cs c) × (n ≡ messageCount cs)
+  check-value n q = checked-done x n (sym (ap saidCheck q) ∙ e)
+
+  pub check-refuse : (n : ℕ) → r ≡ check.Refused n → x ≡ refuse n
+  check-refuse n q = checked-refused x n (sym (ap saidCheck q) ∙ e)
 
 -- a place found in an accepted batch lies within it, and the node's user bytes stand there
 module _ (z : Sizes) (nodes-fit : z .nodes < 256 ^ 8) (rows-fit : z .rows < 256 ^ 8) (user-fits : z .user < 256 ^ 8) where

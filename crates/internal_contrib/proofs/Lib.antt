@@ -3,5 +3,7 @@ pub mod ContribCauses
 pub mod CountLaws
 pub mod ContribLaws
 pub mod BatchLaws
-pub mod WalkLaws
+pub mod PartLaws
+pub mod IndexLaws
+pub mod KeptLaws
 pub mod PageLaws

@@ -1,3 +1,4 @@
 pub mod InternalContrib
 pub mod ContribCauses
 pub mod Places
+pub mod Index

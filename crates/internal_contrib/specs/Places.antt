@@ -16,8 +16,6 @@ use Rattle.internal_contrib.specs.declared.ReadContrib.{ReadContrib}
 use Rattle.internal_contrib.specs.declared.ReadContrib.the-variants as contrib
 use Rattle.internal_contrib.specs.declared.UserPlace.{UserPlace}
 use Rattle.internal_contrib.specs.declared.UserPlace.the-variants as place
-use Rattle.internal_contrib.specs.declared.Walk.{Walk}
-use Rattle.internal_contrib.specs.declared.Walk.the-variants as walk
 use Rattle.internal_contrib.specs.declared.CheckBatch.{CheckBatch}
 use Rattle.internal_contrib.specs.declared.CheckBatch.the-variants as check
 use Rattle.internal_contrib.specs.declared.HasContrib.{HasContrib}
@@ -49,11 +47,6 @@ pub data Place : Type 0 where
 unfoldable pub placeFrom : ℕ → List ContribOf → ℕ → Place
 placeFrom at [] id = no-place
 placeFrom at (c ∷ cs) id = cond (eqb (c .id) id) (at-place (at + 12) (length (c .user))) (placeFrom (at + length (contribBytes c)) cs id)
-
--- one contribution more
-abbrev pub sawPlace : Place → Contrib → ℕ → Place
-sawPlace (at-place start n) c id = at-place start n
-sawPlace no-place c id = cond (eqb (c .id) id) (at-place (c .user) (c .«user_count»)) no-place
 
 -- how many key-generation messages a batch has
 unfoldable pub messageCount : List ContribOf → ℕ
@@ -95,14 +88,6 @@ abbrev pub checked : Read (List ContribOf) → Outcome ℕ
 checked (value cs c) = done (messageCount cs)
 checked (refuse n) = refused n
 
-pub record Walked : Type 0 where
-  pub messages : ℕ
-  pub place : Place
-
-abbrev pub walked : ℕ → Read (List ContribOf) → Outcome Walked
-walked id (value cs c) = done (record { messages = messageCount cs; place = placeFrom 8 cs id })
-walked id (refuse n) = refused n
-
 -- the answers as code gives them
 abbrev pub saidCount : ReadCount → Read ℕ
 saidCount (count.Value n c) = value n c
@@ -115,10 +100,6 @@ saidContrib (contrib.Refused n) = refuse n
 abbrev pub saidPlace : UserPlace → Place
 saidPlace (place.At start n) = at-place start n
 saidPlace place.Nothing = no-place
-
-abbrev pub saidWalk : Walk → Outcome Walked
-saidWalk (walk.Done n p) = done (record { messages = n; place = saidPlace p })
-saidWalk (walk.Refused n) = refused n
 
 abbrev pub saidCheck : CheckBatch → Outcome ℕ
 saidCheck (check.Messages n) = done n

@@ -1,15 +1,17 @@
 // mod.rs: `InternalContrib`, and a batch of them. There is no heap, so a contribution is kept as the places of its parts, to be read again.
 ghost use mathlib.Core.Path.{_≡_};
-ghost use Prim.Native.Nat.{_-_};
+ghost use mathlib.Core.List.{[]};
+ghost use Prim.Native.Nat.{_-_, _≤_};
 ghost use lib.ListN.{length};
-ghost use Rattle.bincode.specs.Read.{numberOf, mapRead};
+ghost use Rattle.bincode.specs.Read.{refuse, numberOf, mapRead};
 ghost use Rattle.bincode.specs.Items.{many};
 ghost use Rattle.bincode.specs.Answer.{stepOf};
 ghost use Rattle.bincode.specs.Sizes.{base};
 ghost use Rattle.votes.specs.Votes.{readSignedVote};
 ghost use Rattle.key_gen_message.specs.KeyGenMessage.{readSignedKeyGenMsg};
 ghost use Rattle.internal_contrib.specs.InternalContrib.{readUser, readMessages, readVotes, readContrib, readBatch};
-ghost use Rattle.internal_contrib.specs.Places.{saidCount, placed, spent, saidContrib, saidPlace, sawPlace, walked, saidWalk, checked, saidCheck, contributed, saidHas, userOf, startOf};
+ghost use Rattle.internal_contrib.specs.Places.{saidCount, placed, spent, saidContrib, saidPlace, checked, saidCheck, contributed, saidHas, userOf, startOf};
+ghost use Rattle.internal_contrib.specs.Index.{contribsIn, indexHeld, placeIn, Indexed};
 use bincode::ReadU32;
 use bincode::ReadU64;
 use bincode::Step;
@@ -135,7 +137,7 @@ fn check_messages(s: &[u8], at: usize, n: u64) -> Step
     let mut c = at;
     let mut i: u64 = 0;
     while i < n {
-        let r = key_gen_message::read_signed(s, c);
+        let r = key_gen_message::read_head(s, c);
         let step = r.step;
         let Step::Next(next) = step else {
             return step;
@@ -153,7 +155,7 @@ fn check_votes(s: &[u8], at: usize, n: u64) -> Step
     let mut c = at;
     let mut i: u64 = 0;
     while i < n {
-        let r = votes::read_signed_vote(s, c);
+        let r = votes::read_vote_head(s, c);
         let step = r.step;
         let Step::Next(next) = step else {
             return step;
@@ -238,61 +240,60 @@ pub enum UserPlace {
     Nothing,
 }
 
-// The first of the id's contributions; ids ascend, so there is no other.
-fn see(place: UserPlace, c: Contrib, id: u32) -> UserPlace
-    ensures { λ r. ⌜ saidPlace r ≡ sawPlace (saidPlace place) c id ⌝ }
-{
-    match place {
-        UserPlace::At(start, count) => UserPlace::At(start, count),
-        UserPlace::Nothing => {
-            if c.id == id {
-                UserPlace::At(c.user, c.user_count)
-            } else {
-                UserPlace::Nothing
-            }
+// The contributions of a batch in its order: those below the count.
+pub struct BatchIndex {
+    pub count: usize,
+    pub contribs: [Contrib; BatchIndex::LIMIT],
+}
+
+impl BatchIndex {
+    pub const LIMIT: usize = 16;
+
+    pub fn empty() -> Self
+        ensures { λ r. ⌜ r ≡ indexHeld [] ⌝ }
+    {
+        let none = Contrib {
+            id: 0,
+            user: 0,
+            user_count: 0,
+            messages: 0,
+            message_count: 0,
+            votes: 0,
+            vote_count: 0,
+        };
+        BatchIndex {
+            count: 0,
+            contribs: [none; BatchIndex::LIMIT],
         }
     }
-}
 
-// The number of a batch's key-generation messages with the place of one node's user bytes, or a refusal.
-pub enum Walk {
-    Done(u64, UserPlace),
-    Refused(u8),
-}
+    // How many contributions there are: a count past the array counts as the array's length.
+    pub fn len(self) -> usize
+        ensures { λ r. ⌜ (r ≡ length (contribsIn self)) × (r ≤ base .nodes) ⌝ }
+    {
+        let n = self.count;
+        if n < BatchIndex::LIMIT {
+            n
+        } else {
+            BatchIndex::LIMIT
+        }
+    }
 
-// Reads a whole batch once.
-fn walk_batch(s: &[u8], id: u32) -> Walk
-    ensures { λ r. ⌜ saidWalk r ≡ walked id (readBatch base (now (s .entry))) ⌝ }
-{
-    if Budget::BYTES < s.len() {
-        return Walk::Refused(3); // the whole length
+    // Where the user bytes of a node's contribution stand; ids ascend, so it has no other.
+    pub fn place_of(self, id: u32) -> UserPlace
+        ensures { λ r. ⌜ saidPlace r ≡ placeIn (contribsIn self) id ⌝ }
+    {
+        let n = self.len();
+        let mut i: usize = 0;
+        while i < n {
+            let c = self.contribs[i];
+            if c.id == id {
+                return UserPlace::At(c.user, c.user_count);
+            }
+            i += 1;
+        }
+        UserPlace::Nothing
     }
-    let ReadU64::Value(n, first) = bincode::read_u64(s, 0) else {
-        return Walk::Refused(2);
-    };
-    if Budget::CONTRIBS < n {
-        return Walk::Refused(3); // a count over its size
-    }
-    let mut b = Budget::new();
-    let mut messages: u64 = 0;
-    let mut place = UserPlace::Nothing;
-    let mut c = first;
-    let mut i: u64 = 0;
-    while i < n {
-        let r = read_contrib(s, c, b);
-        let ReadContrib::Value(e, next) = r else {
-            return Walk::Refused(r.number());
-        };
-        messages += e.message_count;
-        place = see(place, e, id);
-        b = b.spend(e);
-        c = next;
-        i += 1;
-    }
-    if c < s.len() {
-        return Walk::Refused(2);
-    }
-    Walk::Done(messages, place)
 }
 
 // The number of a batch's key-generation messages, or the batch's refusal (rows 2 and 3).
@@ -301,13 +302,66 @@ pub enum CheckBatch {
     Refused(u8),
 }
 
+// The index stands beside the answer; it is empty where reading refuses.
+pub struct ReadIndex {
+    pub outcome: CheckBatch,
+    pub index: BatchIndex,
+}
+
+fn refused_index(n: u8) -> ReadIndex
+    ensures { λ r. ⌜ Indexed r (refuse n) ⌝ }
+{
+    ReadIndex {
+        outcome: CheckBatch::Refused(n),
+        index: BatchIndex::empty(),
+    }
+}
+
+// Reads a whole batch once: it refuses, or notes where each contribution's parts stand.
+pub fn index_batch(s: &[u8]) -> ReadIndex
+    ensures { λ r. ⌜ Indexed r (readBatch base (now (s .entry))) ⌝ }
+{
+    if Budget::BYTES < s.len() {
+        return refused_index(3); // the whole length
+    }
+    let ReadU64::Value(n, first) = bincode::read_u64(s, 0) else {
+        return refused_index(2);
+    };
+    if Budget::CONTRIBS < n {
+        return refused_index(3); // a count over its size
+    }
+    let count = n as usize;
+    let none = BatchIndex::empty();
+    let mut contribs = none.contribs;
+    let mut b = Budget::new();
+    let mut messages: u64 = 0;
+    let mut c = first;
+    let mut i: usize = 0;
+    while i < count {
+        let r = read_contrib(s, c, b);
+        let ReadContrib::Value(e, next) = r else {
+            return refused_index(r.number());
+        };
+        contribs[i] = e;
+        messages += e.message_count;
+        b = b.spend(e);
+        c = next;
+        i += 1;
+    }
+    if c < s.len() {
+        return refused_index(2);
+    }
+    ReadIndex {
+        outcome: CheckBatch::Messages(messages),
+        index: BatchIndex { count, contribs },
+    }
+}
+
 pub fn check_batch(s: &[u8]) -> CheckBatch
     ensures { λ r. ⌜ saidCheck r ≡ checked (readBatch base (now (s .entry))) ⌝ }
 {
-    match walk_batch(s, 0) {
-        Walk::Done(messages, _) => CheckBatch::Messages(messages),
-        Walk::Refused(n) => CheckBatch::Refused(n),
-    }
+    let r = index_batch(s);
+    r.outcome
 }
 
 // Whether a batch has a contribution of a node, or the batch's refusal.
@@ -320,12 +374,15 @@ pub enum HasContrib {
 pub fn has_contrib(s: &[u8], id: u32) -> HasContrib
     ensures { λ r. ⌜ saidHas r ≡ contributed (readBatch base (now (s .entry))) id ⌝ }
 {
-    match walk_batch(s, id) {
-        Walk::Done(_, place) => match place {
+    let r = index_batch(s);
+    let outcome = r.outcome;
+    let index = r.index;
+    match outcome {
+        CheckBatch::Messages(_) => match index.place_of(id) {
             UserPlace::At(_, _) => HasContrib::Yes,
             UserPlace::Nothing => HasContrib::No,
         },
-        Walk::Refused(n) => HasContrib::Refused(n),
+        CheckBatch::Refused(n) => HasContrib::Refused(n),
     }
 }
 
@@ -334,10 +391,9 @@ pub fn user_bytes(s: &[u8], id: u32) -> &[u8]
     ensures { λ r. ⌜ (now r ≡ userOf (readBatch base (now (s .entry))) id) × (r .ptr ≡ startOf (s .entry .ptr) (now (s .entry)) (readBatch base (now (s .entry))) id) ⌝ }
 {
     let n = s.len();
-    let Walk::Done(_, place) = walk_batch(s, id) else {
-        return &s[n..n];
-    };
-    let UserPlace::At(start, count) = place else {
+    let r = index_batch(s);
+    let index = r.index;
+    let UserPlace::At(start, count) = index.place_of(id) else {
         return &s[n..n];
     };
     let end = start + count as usize;

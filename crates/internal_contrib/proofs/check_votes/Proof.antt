@@ -4,7 +4,7 @@ use mathlib.Core.Path.{ap}
 use native.Mathlib.Omega.{arith}
 use Rattle.bincode.specs.Sizes.{base}
 use Rattle.votes.specs.Votes.{readSignedVote}
-use Rattle.votes.specs.declared.ReadSignedVote.{ReadSignedVote}
+use Rattle.votes.specs.declared.ReadVoteHead.{ReadVoteHead}
 use Rattle.internal_contrib.proofs.CountLaws.{Passing, pass-start, pass-more, pass-refused, pass-done}
 use Rattle.internal_contrib.proofs.check_votes.Statement.{statement}
 use Rattle.internal_contrib.proofs.check_votes.Tie as tie
@@ -18,8 +18,8 @@ abbrev μ-loop : tie.MeasureT-loop
 loop-holds : tie.Need-loop-holds Inv-loop μ-loop
 loop-holds c = pass-start _ _ _
 
-read-signed-vote-requires : tie.Need-read-signed-vote-requires Inv-loop μ-loop
-read-signed-vote-requires c κs = search needs
+read-vote-head-requires : tie.Need-read-vote-head-requires Inv-loop μ-loop
+read-vote-head-requires c κs = search needs
 
 enum-known-step : tie.Need-enum-known-step Inv-loop μ-loop
 enum-known-step c = search needs
@@ -28,7 +28,7 @@ enum-told : tie.Need-enum-told Inv-loop μ-loop
 enum-told c = search needs
 
 returns : tie.Need-returns Inv-loop μ-loop
-returns c = pass-refused (readSignedVote base _) _ _ _ _ (c .before .before .before .before .loop .inv) (c .before .before .before .loop-test .taken) _ (ap (λ (r : ReadSignedVote). r .step) (c .before .before .read-signed-vote .ensures)) _ (c .enum-told .given .1)
+returns c = pass-refused (readSignedVote base _) _ _ _ _ (c .before .before .before .before .loop .inv) (c .before .before .before .loop-test .taken) _ (ap (λ (r : ReadVoteHead). r .step) (c .before .before .read-vote-head .ensures)) _ (c .enum-told .given .1)
 
 add-i : tie.Need-add-i Inv-loop μ-loop
 add-i c = search needs
@@ -37,7 +37,7 @@ loop-less : tie.Need-loop-less Inv-loop μ-loop
 loop-less c = omega (arith, c .before .before .before .before .loop-test .taken)
 
 loop-again : tie.Need-loop-again Inv-loop μ-loop
-loop-again c = pass-more (readSignedVote base _) _ _ _ _ (c .before .before .before .before .before .loop .inv) (c .before .before .before .before .loop-test .taken) _ (ap (λ (r : ReadSignedVote). r .step) (c .before .before .before .read-signed-vote .ensures)) _ (c .before .step .given .1)
+loop-again c = pass-more (readSignedVote base _) _ _ _ _ (c .before .before .before .before .before .loop .inv) (c .before .before .before .before .loop-test .taken) _ (ap (λ (r : ReadVoteHead). r .step) (c .before .before .before .read-vote-head .ensures)) _ (c .before .step .given .1)
 
 returns-2 : tie.Need-returns-2 Inv-loop μ-loop
 returns-2 c = pass-done _ _ _ _ _ (c .before .loop .inv) (c .loop-test .left)
@@ -49,7 +49,7 @@ check-votes-spec =
     Inv-loop
     μ-loop
     loop-holds
-    read-signed-vote-requires
+    read-vote-head-requires
     enum-known-step
     enum-told
     returns

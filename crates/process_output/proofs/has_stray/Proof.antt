@@ -15,7 +15,7 @@ use Rattle.key_gen_state.specs.KeyGenState as running
 use Rattle.internal_contrib.specs.InternalContrib.{ContribOf, readContrib, spending, opening}
 use Rattle.internal_contrib.specs.Places.{placed, saidContrib}
 use Rattle.dynamic_honey_badger.specs.State.{stateOf, candidateNodes}
-use Rattle.commit.proofs.PartLaws.{messages-again, messages-within, batch-counted, batch-items, spent-placed}
+use Rattle.internal_contrib.proofs.PartLaws.{messages-again, messages-within, batch-counted, batch-items, spent-placed}
 use Rattle.bincode.proofs.RereadLaws.{Rereading, reread-start, reread-more, reread-refused}
 use Rattle.process_output.proofs.SomeLaws.{seen, some-met, some-none}
 use Rattle.process_output.proofs.ProcessLaws.{strayAmong, row-six}

@@ -17,7 +17,7 @@ use Rattle.commit.specs.declared.Work.{Work}
 use Rattle.steps.specs.Steps.{committedContrib}
 use Rattle.commit.specs.Work.{workOf}
 use Rattle.commit.specs.Readable.{readable}
-use Rattle.commit.proofs.PartLaws.{spent-placed}
+use Rattle.internal_contrib.proofs.PartLaws.{spent-placed}
 use Rattle.commit.proofs.ReadableLaws.{readable-more, readable-refused, readable-end, readable-uncounted, readable-counted}
 use Rattle.commit.proofs.Work.commit_batch.Statement.{statement}
 use Rattle.commit.proofs.Work.commit_batch.Tie as tie

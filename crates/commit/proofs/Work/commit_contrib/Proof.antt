@@ -2,7 +2,7 @@ use borrow.Author.Needs.{needs}
 use native.Mathlib.Omega.{arith}
 use lib.Dec.{lit<}
 use Rattle.bincode.specs.Sizes.{base}
-use Rattle.commit.proofs.PartLaws.{messages-again, votes-again, messages-within, votes-within}
+use Rattle.internal_contrib.proofs.PartLaws.{messages-again, votes-again, messages-within, votes-within}
 use Rattle.commit.proofs.WorkLaws.{contrib-handled}
 use Rattle.commit.proofs.Work.commit_contrib.Statement.{statement}
 use Rattle.commit.proofs.Work.commit_contrib.Tie as tie
