@@ -1,123 +1,93 @@
--- What one vote and one key message come to, by the answers of the functions that handle them.
+-- Turns of the loops over entries.
 -- Assumes nothing.
-use Prim.Native.Nat.{ℕ}
-use mathlib.Core.Path.{_≡_, sym, ap, _∙_}
-use mathlib.Core.List.{List}
-use mathlib.Core.Bool.{Bool, true, false}
-use lib.ListN.{drop}
-use borrow.Author.Tests.{eq-eqb, ne-eqb}
-use Rattle.lists.specs.Lists.{found, nothing}
-use Rattle.lists.proofs.ListLaws.{cond-yes, cond-no}
+use Prim.Native.Nat.{ℕ, _+_, _≤_}
+use mathlib.Core.Path.{_≡_, refl, sym, ap, _∙_}
+use mathlib.Core.List.{List, [], _∷_, map}
+use mathlib.Core.Bool.{true, false}
+use native.Mathlib.Omega.{arith}
+use lib.ListN.{length, take, drop, set, length-take, length-set, length-map}
+use lib.Seq.{take-all, take-at}
+use Rattle.lists.specs.Lists.{Found, mapFound, lookup}
+use Rattle.lists.proofs.ListLaws.{cond-yes, cond-no, rest-none, false-true}
+use Rattle.bincode.specs.Items.{foldl}
 use Rattle.bincode.specs.Sizes.{base}
-use Rattle.fault_log.specs.declared.FaultKind.the-variants.{InvalidKeyGenMessageSignature, InvalidKeyGenMessageEra, UnexpectedKeyGenPart, UnexpectedKeyGenAck}
-use Rattle.pub_key_map.specs.declared.PubKeyMap.{PubKeyMap}
-use Rattle.pub_key_map.specs.PubKeyMap.{nodesOf}
+use Rattle.bincode.specs.Answer.{stepOf, heldOf}
+use Rattle.bincode.specs.declared.Step.{Step}
+use Rattle.bincode.specs.declared.Step.the-variants.{Next, Refused}
+use Rattle.bincode.proofs.ReadLaws.{held-next, step-refused}
+use Rattle.filled.specs.Filled.{filled}
 use Rattle.votes.specs.declared.SignedVote.{SignedVote}
-use Rattle.votes.specs.Votes as votes
-use Rattle.vote_counter.specs.declared.VoteCounter.{VoteCounter}
-use Rattle.vote_counter.specs.declared.VoteAdded.{VoteAdded}
-use Rattle.vote_counter.specs.VoteCounter.{counterOf, addCommitted}
-use Rattle.vote_counter.specs.Answers as counter
-use Rattle.sync_key_gen.specs.SyncKeyGen.{partOf, ackOf}
-use Rattle.key_gen.specs.declared.KeyHandled.{KeyHandled}
-use Rattle.key_gen.specs.KeyGen.{Handled, handled, handlePart, handleAck, keyGenOf, saidOutcome}
-use Rattle.key_gen_state.specs.declared.KeyGenState.{KeyGenState}
-use Rattle.key_gen_state.specs.KeyGenState.{stateOf, runningOf}
-use Rattle.key_gen_message.specs.declared.KeyGenKind.{KeyGenKind}
-use Rattle.key_gen_message.specs.declared.KeyGenKind.the-variants.{Part, Ack}
-use Rattle.key_gen_message.specs.declared.SignedKeyGenMsg.{SignedKeyGenMsg}
-use Rattle.key_gen_message.specs.KeyGenMessage.{messageOfKind, signedOf}
-use Rattle.message_store.specs.declared.MessageStore.{MessageStore}
-use Rattle.message_store.specs.MessageStore.{storeOf, without}
-use Rattle.dynamic_honey_badger.specs.State.{validUnder, candidateNodes, withStore}
-use Rattle.dynamic_honey_badger.specs.State as dynamic
-use Rattle.commit.specs.declared.Work.{Work}
-use Rattle.commit.specs.declared.MessageTold.{MessageTold}
-use Rattle.commit.specs.declared.MessageTold.the-variants.{BlamedProposer, BlamedSigner}
-use Rattle.commit.specs.declared.MessageDone.{MessageDone}
-use Rattle.steps.specs.Steps.{blamed-signer, unexpected, judged, votedBy, votedAs, committedVote, doneAs, toldBy, handledBy, tracked, byKeyGen, messageDone, applied, settled, committedMessage, firstVerdict, otherVerdicts}
-use Rattle.commit.specs.Work.{workOf, saidTold, messageDoneOf}
+use Rattle.votes.specs.Votes.{SignedVoteOf, signedOf, signedHeld, noSigned, readSignedVote}
+use Rattle.votes.proofs.VoteLaws.{held-vote}
+use Rattle.signed_votes.specs.declared.SignedVotes.{SignedVotes}
+use Rattle.signed_votes.specs.SignedVotes.{held, votesOf}
+use Rattle.vote_counter.specs.VoteCounter.{CounterOf, atOrBelow, addCommitted}
+use Rattle.commit.specs.declared.tally.Entry.{Entry}
+use Rattle.commit.specs.Tally.{entryVoter, entryNum, keptEntry, outdated, anyFresh}
+use Rattle.commit.specs.Put.{putRead, putIn, wasRead}
 
--- a committed vote, by what the counter answers
-abbrev pub withVotes : Work → VoteCounter → Work
-withVotes w c = record { params = w .params; «vote_counter» = c; «key_gen_state» = w .«key_gen_state»; store = w .store; faults = w .faults; due = w .due; judged = w .judged }
+-- the test on a number, by what the search finds
+pub outdated-by : (es : List Entry) (voter num : ℕ) (x : Found Entry) → lookup entryVoter es voter ≡ x → outdated es voter num ≡ atOrBelow num (mapFound entryNum x)
+unfolding outdated
+outdated-by es voter num x e = ap (λ (y : Found Entry). atOrBelow num (mapFound entryNum y)) e
 
-pub voted : (w : Work) (verdicts : List ℕ) (proposer : ℕ) (x : SignedVote) (r : VoteAdded) → counter.addedOf r ≡ addCommitted base (counterOf (w .«vote_counter»)) (votes.signedOf x)
-    → votedBy base proposer (counter.saidOutcome (r .outcome)) (workOf verdicts (withVotes w (r .counter))) ≡ committedVote base proposer (workOf verdicts w) (votes.signedOf x)
-unfolding committedVote
-voted w verdicts proposer x r e = ap (votedAs base proposer (workOf verdicts w)) e
+-- the search for an entry of this batch
+module _ (es : List Entry) (i : ℕ) where
+  module _ (x : Entry) (h : drop i es ≡ x ∷ drop (i + 1) es) where
+    pub fresh-here : x .fresh ≡ true → anyFresh (drop i es) ≡ true
+    unfolding anyFresh
+    fresh-here f = ap anyFresh h ∙ cond-yes true (anyFresh (drop (i + 1) es)) f
 
--- a part or an ack, by what key generation answers
-abbrev pub withKeyGen : KeyGenState → KeyHandled → KeyGenState
-withKeyGen s h = record { running = s .running; «key_gen» = h .«key_gen»; counts = s .counts }
+    pub fresh-past : x .fresh ≡ false → anyFresh (drop i es) ≡ anyFresh (drop (i + 1) es)
+    unfolding anyFresh
+    fresh-past f = ap anyFresh h ∙ cond-no true (anyFresh (drop (i + 1) es)) f
 
-module _ (s : KeyGenState) (runs : s .running ≡ true) (h : KeyHandled) (t : MessageTold) (told : saidTold t ≡ toldBy (saidOutcome (h .outcome))) where
-  tracked-as : (x : Handled) → handled (keyGenOf (h .«key_gen»)) (saidOutcome (h .outcome)) ≡ x → messageDoneOf (record { state = withKeyGen s h; told = t }) ≡ tracked (runningOf s) x
-  tracked-as x e =
-      (λ j. doneAs (cond-yes (found (runningOf (withKeyGen s h))) nothing runs j) (told j)) ∙ ap (tracked (runningOf s)) e
+  pub fresh-end : length es ≤ i → anyFresh (drop i es) ≡ false
+  unfolding anyFresh
+  fresh-end l = rw (rest-none es i l)
 
-  module _ (m : SignedKeyGenMsg) (verdict : ℕ) where
-    pub tracked-part : (commit : ℕ) → m .message .kind ≡ Part commit
-        → handled (keyGenOf (h .«key_gen»)) (saidOutcome (h .outcome)) ≡ handlePart (keyGenOf (s .«key_gen»)) (m .id) (partOf (record { commit = commit; rows = m .message .handles })) verdict
-        → messageDoneOf (record { state = withKeyGen s h; told = t }) ≡ byKeyGen (signedOf m) verdict (found (runningOf s))
-    tracked-part commit k e =
-        tracked-as _ e ∙ ap (λ (y : KeyGenKind). tracked (runningOf s) (handledBy (keyGenOf (s .«key_gen»)) (m .id) (messageOfKind y (m .message .handles)) verdict)) (sym k)
+-- the first of those left is handled
+module _ {A B : Type 0} (f : B → A → B) (b : B) (es : List A) (i : ℕ) where
+  pub fold-more : (x : A) → drop i es ≡ x ∷ drop (i + 1) es → (b′ : B) → b′ ≡ f b x → foldl f b (drop i es) ≡ foldl f b′ (drop (i + 1) es)
+  fold-more x h b′ e = ap (foldl f b) h ∙ ap (λ (y : B). foldl f y (drop (i + 1) es)) (sym e)
 
-    pub tracked-ack : (proposer : ℕ) → m .message .kind ≡ Ack proposer
-        → handled (keyGenOf (h .«key_gen»)) (saidOutcome (h .outcome)) ≡ handleAck (keyGenOf (s .«key_gen»)) (m .id) (ackOf (record { proposer = proposer; values = m .message .handles })) verdict
-        → messageDoneOf (record { state = withKeyGen s h; told = t }) ≡ byKeyGen (signedOf m) verdict (found (runningOf s))
-    tracked-ack proposer k e =
-        tracked-as _ e ∙ ap (λ (y : KeyGenKind). tracked (runningOf s) (handledBy (keyGenOf (s .«key_gen»)) (m .id) (messageOfKind y (m .message .handles)) verdict)) (sym k)
+  pub fold-end : length es ≤ i → foldl f b (drop i es) ≡ b
+  fold-end l = ap (foldl f b) (rest-none es i l)
 
--- era, signature, key generation, in this order
-module _ (era : ℕ) (map : PubKeyMap) (s : KeyGenState) (m : SignedKeyGenMsg) (verdict : ℕ) where
-  pub done-era : (m .era ≡ era → ⊥)
-      → messageDoneOf (record { state = s; told = BlamedProposer InvalidKeyGenMessageEra }) ≡ messageDone era (nodesOf map) (stateOf s) (signedOf m) verdict
-  unfolding messageDone
-  done-era h = sym (cond-no _ _ (ne-eqb _ _ h))
+-- a vote as it was before the batch
+abbrev pub keptOf : SignedVote → Entry
+keptOf x = keptEntry (signedOf x)
 
-  module _ (same : m .era ≡ era) (valid : Bool) (v : valid ≡ validUnder (nodesOf map) (candidateNodes (stateOf s)) (m .id) (m .sig)) where
-    pub done-signature : valid ≡ false
-        → messageDoneOf (record { state = s; told = BlamedProposer InvalidKeyGenMessageSignature }) ≡ messageDone era (nodesOf map) (stateOf s) (signedOf m) verdict
-    unfolding messageDone
-    done-signature h = sym (cond-yes _ _ (eq-eqb _ _ same) ∙ cond-no _ _ (sym v ∙ h))
+kept-all : (xs : List SignedVote) → map keptOf xs ≡ map keptEntry (map signedOf xs)
+kept-all [] = refl
+kept-all (x ∷ xs) = ap (λ (es : List Entry). keptOf x ∷ es) (kept-all xs)
 
-    module _ (h : valid ≡ true) where
-      past : byKeyGen (signedOf m) verdict (stateOf s) ≡ messageDone era (nodesOf map) (stateOf s) (signedOf m) verdict
-      unfolding messageDone
-      past = sym (cond-yes _ _ (eq-eqb _ _ same) ∙ cond-yes _ _ (sym v ∙ h))
+-- an array that was filled with what stands for the votes
+pub kept-filled : (t : SignedVotes) (old es : List Entry) (n : ℕ) → n ≡ length (held t) → n ≤ length old → es ≡ filled (map keptOf (held t)) old
+    → take n es ≡ map keptEntry (votesOf t)
+unfolding filled
+kept-filled t old es n e l q =
+    let k : length (map keptOf (held t)) ≡ n = length-map (held t) keptOf ∙ sym e in
+    rw (q, take-all (length old) (map keptOf (held t)) (omega arith)) (take-at (map keptOf (held t)) (drop (length (map keptOf (held t))) old) n k ∙ kept-all (held t))
 
-      pub done-tracked : s .running ≡ true → (d : MessageDone) → messageDoneOf d ≡ byKeyGen (signedOf m) verdict (found (runningOf s))
-          → messageDoneOf d ≡ messageDone era (nodesOf map) (stateOf s) (signedOf m) verdict
-      done-tracked r d e = e ∙ ap (byKeyGen (signedOf m) verdict) (sym (cond-yes _ _ r)) ∙ past
+-- stored in place of another, no entry comes to it
+pub set-bound : (es : List Entry) (n p limit : ℕ) (x : Entry) → length (take n es) ≤ limit → length (take n (set es p x)) ≤ limit
+set-bound es n p limit x h = rw (length-take n (set es p x), length-set es p x) (omega (arith, length-take n es))
 
-      module _ (r : s .running ≡ false) (kind : KeyGenKind) (k : m .message .kind ≡ kind) where
-        stopped : doneAs (stateOf s) (blamed-signer (unexpected (messageOfKind kind (m .message .handles)))) ≡ messageDone era (nodesOf map) (stateOf s) (signedOf m) verdict
-        stopped =
-            let g : stateOf s ≡ nothing = cond-no _ _ r in
-            (λ j. doneAs (g j) (blamed-signer (unexpected (messageOfKind (sym k j) (m .message .handles))))) ∙ ap (byKeyGen (signedOf m) verdict) (sym g) ∙ past
+-- a vote of this batch that is read, and one that cannot be read
+module _ (s : List ℕ) (c : CounterOf) (e : Entry) (f : e .fresh ≡ true) where
+  pub put-unread : (t : Step) → t ≡ stepOf (readSignedVote base s (e .place)) → wasRead t ≡ false → c ≡ putIn base s c e
+  unfolding putIn
+  put-unread (Next d) r w = absurd (false-true (sym w))
+  put-unread (Refused k) r w =
+      sym (cond-yes (putRead base c (readSignedVote base s (e .place))) c f ∙ ap (putRead base c) (step-refused (readSignedVote base s (e .place)) k (sym r)))
 
-      pub done-part : s .running ≡ false → (commit : ℕ) → m .message .kind ≡ Part commit
-          → messageDoneOf (record { state = s; told = BlamedSigner UnexpectedKeyGenPart }) ≡ messageDone era (nodesOf map) (stateOf s) (signedOf m) verdict
-      done-part r commit k = stopped r _ k
-
-      pub done-ack : s .running ≡ false → (proposer : ℕ) → m .message .kind ≡ Ack proposer
-          → messageDoneOf (record { state = s; told = BlamedSigner UnexpectedKeyGenAck }) ≡ messageDone era (nodesOf map) (stateOf s) (signedOf m) verdict
-      done-ack r proposer k = stopped r _ k
-
--- a committed key message, by what became of it
-abbrev pub withMessage : Work → KeyGenState → MessageStore → ℕ → Work
-withMessage w s store used =
-    record { params = w .params; «vote_counter» = w .«vote_counter»; «key_gen_state» = s; store = store; faults = w .faults; due = w .due; judged = used }
-
-pub messaged : (w : Work) (verdicts : List ℕ) (proposer : ℕ) (m : SignedKeyGenMsg) (v used : ℕ) (store : MessageStore) (d : MessageDone)
-    → v ≡ firstVerdict (drop (w .judged) verdicts) → drop used verdicts ≡ otherVerdicts (drop (w .judged) verdicts) → storeOf store ≡ without (signedOf m) (storeOf (w .store))
-    → messageDoneOf d ≡ messageDone (w .«vote_counter» .era) (nodesOf (w .«vote_counter» .«pub_keys»)) (stateOf (w .«key_gen_state»)) (signedOf m) v
-    → applied base proposer (m .id) (saidTold (d .told)) (workOf verdicts (withMessage w (d .state) store used)) ≡ committedMessage base proposer (workOf verdicts w) (signedOf m)
-unfolding committedMessage
-messaged w verdicts proposer m v used store d f u k e =
-    let x = workOf verdicts w in
-    let g = e ∙ ap (messageDone (w .«vote_counter» .era) (nodesOf (w .«vote_counter» .«pub_keys»)) (stateOf (w .«key_gen_state»)) (signedOf m)) f in
-    (λ j. applied base proposer (m .id) (saidTold (d .told))
-    (record { state = withStore (dynamic.withKeyGen (x .state) (stateOf (d .state))) (k j); faults = x .faults; due = x .due; verdicts = u j }))
-    ∙ ap (settled base proposer (judged x) (signedOf m)) g
+  pub put-read : (t : Step) → t ≡ stepOf (readSignedVote base s (e .place)) → wasRead t ≡ true → (x : SignedVote)
+      → x ≡ heldOf signedHeld (signedHeld noSigned) (readSignedVote base s (e .place)) → addCommitted base c (signedOf x) .counter ≡ putIn base s c e
+  unfolding putIn
+  put-read (Next d) r w x o =
+      let u = held-next (readSignedVote base s (e .place)) (Next d) r signedHeld (signedHeld noSigned) x o d refl in
+      sym
+      (cond-yes (putRead base c (readSignedVote base s (e .place))) c f ∙ ap (putRead base c) (u .1)
+      ∙ ap (λ (v : SignedVoteOf). addCommitted base c v .counter) (sym (ap signedOf (u .2) ∙ held-vote (u .0))))
+  put-read (Refused k) r w x o = absurd (false-true w)

@@ -7,38 +7,49 @@ use mathlib.Core.Bool.{Bool, true, false, cond}
 use native.Mathlib.Omega.{arith}
 use Rattle.lists.specs.Lists.{Found, found, nothing}
 use Rattle.lists.proofs.ListLaws.{cond-yes, cond-no}
-use Rattle.bincode.specs.Sizes.{Sizes}
+use Rattle.bincode.specs.Sizes.{Sizes, base}
 use Rattle.pub_key_map.specs.declared.Node.{Node}
+use Rattle.pub_key_map.specs.declared.PubKeyMap.{PubKeyMap}
 use Rattle.pub_key_map.specs.PubKeyMap.{nodesOf}
 use Rattle.honey_badger.specs.declared.EncryptionSchedule.{EncryptionSchedule}
+use Rattle.change.specs.declared.Change.{Change}
 use Rattle.change.specs.declared.ChangeKind.{ChangeKind}
 use Rattle.change.specs.declared.ChangeKind.the-variants as kind
-use Rattle.change.specs.Change.{changeOfKind, nodeChange, encryptionSchedule, ChangeStateOf, inProgress, complete}
+use Rattle.params.specs.declared.Params.{Params}
+use Rattle.change.specs.Change.{ChangeOf, changeOf, changeOfKind, nodeChange, encryptionSchedule, ChangeStateOf, inProgress, complete}
 use Rattle.due.specs.declared.DueItem.{DueItem}
-use Rattle.vote_counter.specs.VoteCounter.{computeWinner}
+use Rattle.vote_counter.specs.declared.VoteCounter.{VoteCounter}
+use Rattle.vote_counter.specs.VoteCounter.{computeWinner, counterOf, newHeld}
+use Rattle.key_gen.specs.declared.KeyGen.{KeyGen}
+use Rattle.key_gen.specs.KeyGen.{KeyGenOf, keyGenOf, freshHeld}
+use Rattle.key_gen.proofs.KeyGenLaws.{fresh}
+use Rattle.key_gen_message.specs.KeyGenMessage.{SignedKeyGenMsgOf}
+use Rattle.message_store.specs.MessageStore.{fromEra}
 use Rattle.key_gen_state.specs.declared.KeyGenState.{KeyGenState}
 use Rattle.key_gen_state.specs.KeyGenState as running
 use Rattle.recipe.specs.Recipe.{RecipeOf}
-use Rattle.dynamic_honey_badger.specs.State.{StateOf, nodesIn, withParams, newEra, keyGenFor, partDue, candidateNodes}
+use Rattle.dynamic_honey_badger.specs.State.{StateOf, nodesIn, withParams, newEra, freshKeyGen, keyGenFor, partDue, candidateNodes}
 use Rattle.decision.specs.declared.Elected.{Elected}
-use Rattle.decision.specs.Decision.{Decided, decidedAs, completedBy, isCandidate, mapWins, withSchedule, scheduleWins, electedBy, decide, saidChange, electedOf, isEmptyMap, emptyWins}
+use Rattle.decision.specs.Decision.{Decided, decidedAs, completedBy, isCandidate, mapWins, withSchedule, scheduleWins, electedBy, decide, decideBy, partsOf, saidChange, electedOf, isEmptyMap, emptyWins}
 
 -- decisions are equal where their parts are
 pub same-decision : {s t : StateOf} {c d : ChangeStateOf} {xs ys : List DueItem} {p q : Found RecipeOf}
     → s ≡ t → c ≡ d → xs ≡ ys → p ≡ q → _≡_ {A = Decided} (record { state = s; change = c; due = xs; recipe = p }) (record { state = t; change = d; due = ys; recipe = q })
 same-decision a b e f = λ i. record { state = a i; change = b i; due = e i; recipe = f i }
 
--- the winner as code holds it
+-- a change as code holds it: a map, or a schedule
+module _ (c : Change) where
+  pub change-map : c .kind ≡ kind.NodeChange → changeOf c ≡ nodeChange (nodesOf (c .map))
+  change-map k = ap (λ (k : ChangeKind). changeOfKind k (c .map)) k
+
+  pub change-schedule : (x : EncryptionSchedule) → c .kind ≡ kind.EncryptionSchedule x → changeOf c ≡ encryptionSchedule x
+  change-schedule x k = ap (λ (k : ChangeKind). changeOfKind k (c .map)) k
+
+-- the winner as code holds it: one, or nobody
 module _ (e : Elected) where
-  -- a map
-  pub elected-map : e .found ≡ true → e .change .kind ≡ kind.NodeChange → electedOf e ≡ found (nodeChange (nodesOf (e .change .map)))
-  elected-map f k = ap (λ (b : Bool). saidChange b (e .change)) f ∙ ap (λ (k : ChangeKind). found (changeOfKind k (e .change .map))) k
+  pub elected-found : e .found ≡ true → electedOf e ≡ found (changeOf (e .change))
+  elected-found f = ap (λ (b : Bool). saidChange b (e .change)) f
 
-  -- a schedule
-  pub elected-schedule : (x : EncryptionSchedule) → e .found ≡ true → e .change .kind ≡ kind.EncryptionSchedule x → electedOf e ≡ found (encryptionSchedule x)
-  elected-schedule x f k = ap (λ (b : Bool). saidChange b (e .change)) f ∙ ap (λ (k : ChangeKind). found (changeOfKind k (e .change .map))) k
-
-  -- nobody
   pub elected-none : e .found ≡ false → electedOf e ≡ nothing
   elected-none f = ap (λ (b : Bool). saidChange b (e .change)) f
 
@@ -49,6 +60,22 @@ ready-runs k = go (k .running) (running.runningOf k)
     go : (b : Bool) (g : running.KeyGenStateOf) → running.readyState (cond b (found g) nothing) ≡ true → cond b (found g) nothing ≡ found g
     go true g e = refl
     go false g e = absurd (let z : _≡_ {A = ℕ} 0 1 = cc in let y : ⊥ = omega arith in y)
+
+-- a new era as code begins it: no votes, and a store without lower eras
+pub era-begun : (era : ℕ) (c v : VoteCounter) (m : PubKeyMap) (p : Params) (g : Found running.KeyGenStateOf) (st : List SignedKeyGenMsgOf)
+    → v ≡ newHeld (c .«our_id») (c .«secret_key») m era
+    → _≡_ {A = StateOf} (record { counter = counterOf v; params = p; key-gen = g; store = fromEra era st }) (newEra era (nodesOf m) (record { counter = counterOf c; params = p; key-gen = g; store = st }))
+unfolding newEra
+era-begun era c v m p g st e = ap {B = StateOf} (λ (x : VoteCounter). record { counter = counterOf x; params = p; key-gen = g; store = fromEra era st }) e
+
+-- the same with a fresh key generation
+pub map-begun : (era : ℕ) (c v : VoteCounter) (m : PubKeyMap) (p : Params) (k h : KeyGenState) (x : KeyGen) (st : List SignedKeyGenMsgOf)
+    → v ≡ newHeld (c .«our_id») (c .«secret_key») (c .«pub_keys») era → x ≡ freshHeld (c .«our_id») m → running.stateOf h ≡ found (running.freshState base (keyGenOf x))
+    → partsOf p v h (fromEra era st) ≡ keyGenFor base (nodesOf m) (newEra era (nodesOf (c .«pub_keys»)) (partsOf p c k st))
+unfolding keyGenFor newEra
+map-begun era c v m p k h x st e f g =
+    let begun : running.stateOf h ≡ found (freshKeyGen base (c .«our_id») (nodesOf m)) = g ∙ ap {B = Found running.KeyGenStateOf} (λ (y : KeyGenOf). found (running.freshState base y)) (ap keyGenOf f ∙ fresh (c .«our_id») m) in
+    λ i. record { counter = counterOf (e i); params = p; key-gen = begun i; store = fromEra era st }
 
 module _ (z : Sizes) (era : ℕ) (s : StateOf) where
   -- a map wins
@@ -64,15 +91,19 @@ module _ (z : Sizes) (era : ℕ) (s : StateOf) where
     unfolding mapWins
     map-new e = cond-no _ _ e
 
-  -- a ready key generation completes
-  pub decide-ready : running.readyState (s .key-gen) ≡ true → decide z era s ≡ completedBy era s (s .key-gen)
+  -- the winner may be found before, by itself
+  pub decide-by : decide z era s ≡ decideBy z era s (computeWinner (s .counter))
   unfolding decide
-  decide-ready e = cond-yes _ _ e
+  decide-by = refl
 
-  -- otherwise it goes by the winner
-  pub decide-elects : running.readyState (s .key-gen) ≡ false → decide z era s ≡ electedBy z era s (computeWinner (s .counter))
-  unfolding decide
-  decide-elects e = cond-no _ _ e
+  module _ (w : Found ChangeOf) where
+    -- a ready key generation completes
+    pub by-ready : running.readyState (s .key-gen) ≡ true → decideBy z era s w ≡ completedBy era s (s .key-gen)
+    by-ready e = cond-yes _ _ e
+
+    -- otherwise it goes by the winner
+    pub by-elects : running.readyState (s .key-gen) ≡ false → decideBy z era s w ≡ electedBy z era s w
+    by-elects e = cond-no _ _ e
 
 -- a schedule wins
 module _ (era : ℕ) (s : StateOf) (x : EncryptionSchedule) where

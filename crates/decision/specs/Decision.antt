@@ -1,7 +1,8 @@
 -- 01, steps 6 to 8: what a batch decides, once its votes and messages are in.
-use Prim.Native.Nat.{ℕ}
-use mathlib.Core.List.{List, [], _∷_}
+use Prim.Native.Nat.{ℕ, _-_}
+use mathlib.Core.List.{List, [], _∷_, _++_}
 use mathlib.Core.Bool.{Bool, true, false, cond}
+use lib.ListN.{take, drop, replicate}
 use Rattle.lists.specs.Lists.{Found, found, nothing}
 use Rattle.bincode.specs.Sizes.{Sizes}
 use Rattle.pub_key_map.specs.declared.Node.{Node}
@@ -9,15 +10,23 @@ use Rattle.pub_key_map.specs.PubKeyMap.{sameNodes}
 use Rattle.honey_badger.specs.declared.EncryptionSchedule.{EncryptionSchedule}
 use Rattle.params.specs.declared.Params.{Params}
 use Rattle.change.specs.declared.Change.{Change}
+use Rattle.change.specs.declared.ChangeState.{ChangeState}
 use Rattle.change.specs.Change.{ChangeOf, changeOf, nodeChange, encryptionSchedule, ChangeStateOf, none, inProgress, complete, stateOf as progressOf}
 use Rattle.due.specs.declared.DueKind.the-variants.{Part}
 use Rattle.due.specs.declared.DueItem.{DueItem}
-use Rattle.vote_counter.specs.VoteCounter.{computeWinner}
-use Rattle.key_gen_state.specs.KeyGenState.{KeyGenStateOf, readyState}
+use Rattle.vote_counter.specs.declared.VoteCounter.{VoteCounter}
+use Rattle.vote_counter.specs.VoteCounter.{computeWinner, counterOf}
+use Rattle.key_gen.specs.declared.Proposal.{Proposal}
+use Rattle.key_gen.specs.declared.KeyGen.{KeyGen}
+use Rattle.key_gen.specs.KeyGen.{noProposal}
+use Rattle.key_gen_message.specs.KeyGenMessage.{SignedKeyGenMsgOf}
+use Rattle.key_gen_state.specs.declared.KeyGenState.{KeyGenState}
+use Rattle.key_gen_state.specs.KeyGenState.{KeyGenStateOf, readyState, stateOf}
+use Rattle.message_store.specs.MessageStore.{fromEra}
 use Rattle.recipe.specs.declared.Recipe.{Recipe}
-use Rattle.recipe.specs.Recipe.{RecipeOf, recipe, recipeOf}
+use Rattle.recipe.specs.Recipe.{RecipeOf, recipe, recipeOf, emptyRecipe}
 use Rattle.joining.specs.Starting.{isEmpty}
-use Rattle.dynamic_honey_badger.specs.State.{StateOf, nodesIn, withKeyGen, withParams, newEra, keyGenFor, partDue, candidateNodes, stateOf}
+use Rattle.dynamic_honey_badger.specs.State.{StateOf, nodesIn, withKeyGen, withParams, newEra, keyGenFor, partDue, candidateNodes}
 use Rattle.decision.specs.declared.Decision.{Decision}
 use Rattle.decision.specs.declared.Elected.{Elected}
 
@@ -75,6 +84,10 @@ electedBy z era s nothing = decidedAs s none
 unfoldable pub decide : Sizes → ℕ → StateOf → Decided
 decide z era s = cond (readyState (s .key-gen)) (completedBy era s (s .key-gen)) (electedBy z era s (computeWinner (s .counter)))
 
+-- the same where the winner is given
+abbrev pub decideBy : Sizes → ℕ → StateOf → Found ChangeOf → Decided
+decideBy z era s w = cond (readyState (s .key-gen)) (completedBy era s (s .key-gen)) (electedBy z era s w)
+
 -- as code holds it: whether there is a winner, and whether a part is due in the new era
 abbrev pub saidChange : Bool → Change → Found ChangeOf
 saidChange true c = found (changeOf c)
@@ -87,13 +100,32 @@ abbrev pub saidRecipe : Bool → Recipe → Found RecipeOf
 saidRecipe true r = found (recipeOf r)
 saidRecipe false r = nothing
 
-abbrev pub decidedOf : ℕ → Decision → Decided
-decidedOf era d =
+-- the state that parts make, whatever the store holds
+abbrev pub partsOf : Params → VoteCounter → KeyGenState → List SignedKeyGenMsgOf → StateOf
+partsOf p c k st = record { counter = counterOf c; params = p; key-gen = stateOf k; store = st }
+
+-- where an era begins, the store loses what is of lower ones
+abbrev pub decidedOf : ℕ → List SignedKeyGenMsgOf → Decision → Decided
+decidedOf era st d =
     record {
-      state = stateOf (d .state);
+      state = partsOf (d .params) (d .«vote_counter») (d .«key_gen_state») (cond (d .restarted) (fromEra era st) st);
       change = progressOf (d .change);
       due = cond (d .«part_due») (record { kind = Part; era = era } ∷ []) [];
       recipe = saidRecipe (d .«has_recipe») (d .recipe);
+    }
+
+-- the struct of a decision without a recipe
+abbrev pub withoutRecipe : Params → VoteCounter → KeyGenState → Bool → ChangeState → Bool → Decision
+withoutRecipe p c k restarted change due =
+    record {
+      params = p;
+      «vote_counter» = c;
+      «key_gen_state» = k;
+      restarted = restarted;
+      change = change;
+      «part_due» = due;
+      «has_recipe» = false;
+      recipe = emptyRecipe;
     }
 
 -- row 7: the winning map is empty
@@ -104,3 +136,11 @@ isEmptyMap nothing = false
 
 unfoldable pub emptyWins : StateOf → Bool
 emptyWins s = cond (readyState (s .key-gen)) false (isEmptyMap (computeWinner (s .counter)))
+
+-- proposals of which those from one place on to another are cleared
+unfoldable pub cleared : ℕ → ℕ → List Proposal → List Proposal
+cleared i n ps = take i ps ++ (replicate (n - i) noProposal ++ drop n ps)
+
+-- the struct with its proposals cleared so
+abbrev pub clearedHeld : KeyGen → ℕ → ℕ → KeyGen
+clearedHeld g i n = record { «our_id» = g .«our_id»; «pub_keys» = g .«pub_keys»; proposals = cleared i n (g .proposals) }

@@ -1,12 +1,13 @@
 -- Laws of a node's state: how it starts, and what an era empties.
 -- Assumes nothing.
-use mathlib.Core.Bool.{true, false}
-use mathlib.Core.List.{[]}
+use mathlib.Core.Bool.{Bool, true, false, cond}
+use mathlib.Core.List.{List, []}
 use mathlib.Core.Path.{_≡_, refl, sym, ap, _∙_}
 use Prim.Native.Nat.{ℕ}
-use Rattle.lists.specs.Lists.{Found, found}
+use Rattle.lists.specs.Lists.{Found, found, nothing}
 use Rattle.lists.proofs.ListLaws.{false-true}
 use Rattle.bincode.specs.Sizes.{Sizes, base}
+use Rattle.pub_key_map.specs.declared.Node.{Node}
 use Rattle.pub_key_map.specs.declared.PubKeyMap.{PubKeyMap}
 use Rattle.pub_key_map.specs.PubKeyMap.{nodesOf}
 use Rattle.change.specs.declared.ChangeKind.{ChangeKind}
@@ -23,8 +24,16 @@ use Rattle.key_gen_state.specs.KeyGenState as running
 use Rattle.joining.specs.declared.StartOutcome.{StartOutcome}
 use Rattle.joining.specs.declared.StartOutcome.the-variants as start
 use Rattle.joining.specs.Starting.{StartOf, saidStart}
-use Rattle.dynamic_honey_badger.specs.State.{StateOf, stateOf, withKeyGen, keyGenFor, partDue, opened, startedFrom, inProgressMap, joinedBy}
+use Rattle.dynamic_honey_badger.specs.State.{StateOf, stateOf, withKeyGen, keyGenFor, partDue, opened, startedFrom, inProgressMap, candidateNodes, joinedBy}
 use Rattle.dynamic_honey_badger.specs.declared.DynamicHoneyBadger.{DynamicHoneyBadger}
+
+-- the candidate map, by whether key generation runs
+pub candidate-by : (g : KeyGenState) → cond (g .running) (found (nodesOf (g .«key_gen» .«pub_keys»))) nothing ≡ candidateNodes (running.stateOf g)
+candidate-by g = go (g .running)
+  where
+    go : (b : Bool) → cond b (found (nodesOf (g .«key_gen» .«pub_keys»))) nothing ≡ candidateNodes (cond b (found (running.runningOf g)) nothing)
+    go true = refl
+    go false = refl
 
 -- a fresh key generation in the place of what was there
 pub key-gen-begun : (s : DynamicHoneyBadger) (m : PubKeyMap) (k : KeyGen) (g : KeyGenState)

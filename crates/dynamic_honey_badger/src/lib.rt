@@ -1,6 +1,8 @@
 // dynamic_honey_badger.rs: the state of a node, how it starts, own votes, received messages, and what a host asks between batches.
 ghost use mathlib.Core.Path.{_≡_};
+ghost use mathlib.Core.Bool.{cond};
 ghost use lib.ListN.{length};
+ghost use Rattle.lists.specs.Lists.{found, nothing};
 ghost use Rattle.bincode.specs.Sizes.{base};
 ghost use Rattle.pub_key_map.specs.PubKeyMap.{nodesOf};
 ghost use Rattle.change.specs.Change.{changeOf, stateOf as progressOf};
@@ -101,12 +103,25 @@ pub enum NextEpoch {
 pub fn verify_signature(pub_keys: PubKeyMap, state: KeyGenState, id: u32, sig: u64) -> bool
     ensures { λ r. ⌜ r ≡ validUnder (nodesOf «pub_keys») (candidateNodes (running.stateOf state)) id sig ⌝ }
 {
+    let key_gen = state.key_gen;
+    let candidate = key_gen.pub_keys;
+    verify_under(pub_keys, state.running, candidate, id, sig)
+}
+
+// The same by the two maps, for a loop that has key generation in parts; the second counts where key generation runs.
+pub fn verify_under(
+    pub_keys: PubKeyMap,
+    running: bool,
+    candidate: PubKeyMap,
+    id: u32,
+    sig: u64,
+) -> bool
+    ensures { λ r. ⌜ r ≡ validUnder (nodesOf «pub_keys») (cond running (found (nodesOf candidate)) nothing) id sig ⌝ }
+{
     if is_key(pub_keys, id, sig) {
         return true;
     }
-    if state.running {
-        let key_gen = state.key_gen;
-        let candidate = key_gen.pub_keys;
+    if running {
         return is_key(candidate, id, sig);
     }
     false

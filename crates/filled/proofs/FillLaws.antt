@@ -2,8 +2,8 @@
 -- Assumes nothing.
 use Prim.Native.Nat.{ℕ, suc, _+_, _≤_, _<_}
 use mathlib.Core.Path.{_≡_, refl, sym, ap, _∙_}
-use mathlib.Core.Bool.{Bool, true, false}
 use mathlib.Core.List.{List, [], _∷_, _++_, map, map-append, append-assoc}
+use mathlib.Core.Bool.{Bool, true, false}
 use native.Mathlib.Omega.{arith}
 use native.Mathlib.Numerals.{add-one}
 use lib.Dec.{ltb}
@@ -107,3 +107,22 @@ module _ {A B : Type 0} (f : A → B) (array : List A) (count : ℕ) (old : List
   -- at the end the view is filled in
   pub fill-end : (i : ℕ) (list : List B) → FilledTo i list → length (take count array) ≤ i → list ≡ filled (map f (take count array)) old
   fill-end i list e h = rw (take-all i (take count array) h) at e
+
+-- a list with a limit, of which lent lists hold what f says of each element, and one element more
+module _ {A : Type 0} (limit : ℕ) (xs : List A) (n : ℕ) (size : length xs ≡ n) (a : A) where
+  -- it has a place below the limit
+  module _ (h : n < limit) where
+    pub capped-more : take limit (xs ++ (a ∷ [])) ≡ xs ++ (a ∷ [])
+    capped-more = take-all limit (xs ++ (a ∷ [])) (omega (arith, length-append xs (a ∷ []), size))
+
+    pub capped-count : length (take limit (xs ++ (a ∷ []))) ≡ n + 1
+    capped-count = ap length capped-more ∙ length-append xs (a ∷ []) ∙ ap (λ (k : ℕ). k + 1) size
+
+    pub capped-put : {B : Type 0} (f : A → B) (old list : List B) → list ≡ filled (map f xs) old → (x : B) → x ≡ f a
+        → set list n x ≡ filled (map f (take limit (xs ++ (a ∷ [])))) old
+    capped-put f old list e x s = rw (capped-more, map-append f xs (a ∷ []), e, s) (filled-next (map f xs) old n (f a) (length-map xs f ∙ size))
+
+  -- at the limit it is left out
+  module _ (b : n ≤ limit) (h : limit ≤ n) where
+    pub capped-same : take limit (xs ++ (a ∷ [])) ≡ xs
+    capped-same = take-append-le limit xs (a ∷ []) (omega (arith, size)) ∙ take-all limit xs (omega (arith, size))

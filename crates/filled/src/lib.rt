@@ -1,4 +1,4 @@
-// Lent lists that are filled from the first place on: what they hold, and the laws of the loops that do so; a due item stored at a place of its three lists.
+// Lent lists that are filled from the first place on: what they hold, and the laws of the loops that do so; a number, and a due item, stored at a place.
 ghost use mathlib.Core.Path.{_≡_};
 ghost use lib.ListN.{set};
 ghost use Rattle.filled.specs.Filled.{shorter};
@@ -36,21 +36,28 @@ pub fn due_proposer(kind: DueKind) -> u64
     }
 }
 
-// Stores a byte at a place of a list, where there is one.
-fn put_byte(list: &mut [u8], at: usize, x: u8)
-    ensures { λ _. ⌜ now (list .exit) ≡ set (now (list .entry)) at x ⌝ }
+// A number at a place of a lent list; where there is no such place, nothing changes.
+pub fn put_u8(list: &mut [u8], n: usize, x: u8)
+    ensures { λ _. ⌜ now (list .exit) ≡ set (now (list .entry)) n x ⌝ }
 {
-    if at < list.len() {
-        list[at] = x;
+    if n < list.len() {
+        list[n] = x;
     }
 }
 
-// The same for a number.
-fn put_number(list: &mut [u64], at: usize, x: u64)
-    ensures { λ _. ⌜ now (list .exit) ≡ set (now (list .entry)) at x ⌝ }
+pub fn put_u32(list: &mut [u32], n: usize, x: u32)
+    ensures { λ _. ⌜ now (list .exit) ≡ set (now (list .entry)) n x ⌝ }
 {
-    if at < list.len() {
-        list[at] = x;
+    if n < list.len() {
+        list[n] = x;
+    }
+}
+
+pub fn put_u64(list: &mut [u64], n: usize, x: u64)
+    ensures { λ _. ⌜ now (list .exit) ≡ set (now (list .entry)) n x ⌝ }
+{
+    if n < list.len() {
+        list[n] = x;
     }
 }
 
@@ -59,7 +66,7 @@ pub fn store_due(item: DueItem, at: usize, kinds: &mut [u8], indices: &mut [u64]
     ensures { λ _. ⌜ DueAt item at (now (kinds .entry)) (now (kinds .exit)) (now (indices .entry)) (now (indices .exit)) (now (eras .entry)) (now (eras .exit)) ⌝ }
 {
     let kind = item.kind;
-    put_byte(kinds, at, due_number(kind));
-    put_number(indices, at, due_proposer(kind));
-    put_number(eras, at, item.era);
+    put_u8(kinds, at, due_number(kind));
+    put_u64(indices, at, due_proposer(kind));
+    put_u64(eras, at, item.era);
 }

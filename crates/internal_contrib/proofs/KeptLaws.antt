@@ -4,17 +4,21 @@ use Prim.Native.Nat.{ℕ, zero, suc, _+_, _^_, _<_}
 use mathlib.Core.Path.{_≡_, refl, sym, ap, _∙_, subst}
 use mathlib.Core.List.{List, [], _∷_}
 use native.Mathlib.Omega.{arith}
-use lib.ListN.{length, drop, length-drop}
+use native.Mathlib.Numerals.{add-one}
+use lib.ListN.{length, take, drop, getD, length-drop, length-take}
+use lib.Seq.{drop-cons, getD-take}
 use Rattle.bincode.specs.Read.{value}
 use Rattle.bincode.specs.Items.{items}
-use Rattle.bincode.specs.Sizes.{Sizes}
+use Rattle.bincode.specs.Sizes.{Sizes, base}
 use Rattle.bincode.specs.Stands.{Bytes}
 use Rattle.bincode.proofs.NumberLaws.{read-value}
 use Rattle.bincode.proofs.ItemLaws.{uncons}
 use Rattle.internal_contrib.specs.declared.Budget.{Budget}
 use Rattle.internal_contrib.specs.declared.Contrib.{Contrib}
 use Rattle.internal_contrib.specs.InternalContrib.{ContribOf, readContrib, readBatch, spending}
-use Rattle.internal_contrib.specs.Index.{placedFrom, Kept, EachKept}
+use Rattle.internal_contrib.specs.Index.{placedFrom, noContrib, contribsIn, indexHeld, Kept, EachKept}
+use Rattle.internal_contrib.specs.declared.BatchIndex.{BatchIndex}
+use Rattle.lists.proofs.ListLaws.{take-padded}
 use Rattle.internal_contrib.proofs.ContribCodes.{contrib-codes}
 use Rattle.internal_contrib.proofs.PartLaws.{batch-count}
 
@@ -48,3 +52,24 @@ module _ (z : Sizes) (s : List ℕ) where
       let f : suc i + 1 ≡ suc (i + 1) = omega arith in
       let r = kept-more ks cs (h .1) i k (e ∙ ap (λ (d : ℕ). k ∷ drop d (j ∷ ks)) f) in
       (r .0, r .1, r .2 ∙ ap (λ (d : ℕ). r .0 ∷ drop d (x ∷ cs)) (sym f))
+
+  -- the same by the array that holds the index
+  pub kept-next : (array : List Contrib) (count : ℕ) (cs : List ContribOf) → EachKept z s (take count array) cs → (i : ℕ) → i < length (take count array)
+      → (x : ContribOf) × Kept z s (getD array i noContrib) x × (drop i cs ≡ x ∷ drop (i + 1) cs)
+  kept-next array count cs h i l =
+      let k : i < count = omega (arith, length-take count array) in
+      let e : drop i (take count array) ≡ getD array i noContrib ∷ drop (i + 1) (take count array)
+      = drop-cons (take count array) i noContrib l ∙ (λ j. getD-take count array i noContrib k j ∷ drop (sym (add-one i) j) (take count array)) in
+      kept-more (take count array) cs h i (getD array i noContrib) e
+
+  -- as many contributions as places
+  pub kept-length : (ks : List Contrib) (cs : List ContribOf) → EachKept z s ks cs → length cs ≡ length ks
+  kept-length [] [] h = refl
+  kept-length [] (x ∷ cs) h = absurd h
+  kept-length (k ∷ ks) [] h = absurd h
+  kept-length (k ∷ ks) (x ∷ cs) h = ap suc (kept-length ks cs (h .1))
+
+  -- the struct that holds places of contributions stands for just these
+  pub held-index : (x : BatchIndex) (cs : List ContribOf) → x ≡ indexHeld (placedFrom 8 cs) → EachKept z s (placedFrom 8 cs) cs → EachKept z s (contribsIn x) cs
+  held-index x cs e h =
+      subst (λ (ks : List Contrib). EachKept z s ks cs) (sym (ap contribsIn e ∙ take-padded (base .nodes) noContrib (placedFrom 8 cs))) h

@@ -86,7 +86,7 @@ pub struct KeyHandled {
 }
 
 // The verdict on the own row of the proposer's part.
-fn row_outcome(i: usize, verdict: u8) -> KeyOutcome
+pub fn row_outcome(i: usize, verdict: u8) -> KeyOutcome
     ensures { λ r. ⌜ saidOutcome r ≡ rowEffect i verdict ⌝ }
 {
     if verdict == 0 {
@@ -102,7 +102,7 @@ fn row_outcome(i: usize, verdict: u8) -> KeyOutcome
 }
 
 // The verdict on the own value of an ack.
-fn value_outcome(verdict: u8) -> KeyOutcome
+pub fn value_outcome(verdict: u8) -> KeyOutcome
     ensures { λ r. ⌜ saidOutcome r ≡ valueEffect verdict ⌝ }
 {
     if verdict == 0 {
@@ -137,7 +137,7 @@ impl KeyGen {
         util::max_faulty(map.len())
     }
 
-    fn observes(self) -> bool
+    pub fn observes(self) -> bool
         ensures { λ r. ⌜ r ≡ not (isMember (nodesOf (self .«pub_keys»)) (self .«our_id»)) ⌝ }
     {
         let map = self.pub_keys;

@@ -1,3 +1,3 @@
 pub mod SomeLaws
-pub mod ProcessLaws
+pub mod OpeningLaws
 pub mod PageLaws

@@ -1,7 +1,7 @@
-// The values of answers as text: faults, recipe, votes, parts, and encoded values as bytes.
-use crate::fields::field;
+// The values of answers as text: faults, due items, recipe, votes, parts, and encoded values as bytes.
+use crate::fields::find;
 use crate::text::put;
-use crate::text::put_comma;
+use crate::text::put_between;
 use crate::text::put_first;
 use crate::text::put_named;
 use crate::text::put_number;
@@ -17,23 +17,32 @@ use recipe::Share;
 use signed_votes::SignedVotes;
 use votes::SignedVote;
 
+// The word with a number, counted from 0, of words with a space between two; the empty one at the end where there are fewer.
+fn word(s: &[u8], k: u8) -> &[u8] {
+    let n = s.len();
+    let mut start: usize = 0;
+    let mut i: u8 = 0;
+    while i < k {
+        let e = find(s, start, b' ');
+        if e < n {
+            start = e + 1;
+        } else {
+            start = n;
+        }
+        i += 1;
+    }
+    let e = find(s, start, b' ');
+    &s[start..e]
+}
+
 // The name of a kind of fault, by the kind's number.
 fn put_kind(out: &mut [u8], at: usize, number: u8) -> usize {
-    let n = number as u64;
-    if n < 9 {
-        let names =
-            b"InvalidVoteSignature InvalidCommittedVote UnexpectedDhbMessageEra InvalidKeyGenMessageSignature \
-            UnexpectedKeyGenMessage TooManyKeyGenMessages InvalidKeyGenMessageEra UnexpectedKeyGenPart UnexpectedKeyGenAck";
-        return put(out, at, field(names, n));
-    }
-    if n < 14 {
-        let names = b"RowCount MultipleParts DecryptRow DeserializeRow RowCommitment";
-        let a = put(out, at, b"SyncKeyGenPart.");
-        return put(out, a, field(names, n - 9));
-    }
-    let names = b"ValueCount MissingPart DecryptValue DeserializeValue ValueCommitment";
-    let a = put(out, at, b"SyncKeyGenAck.");
-    put(out, a, field(names, n - 14))
+    let names =
+        b"InvalidVoteSignature InvalidCommittedVote UnexpectedDhbMessageEra InvalidKeyGenMessageSignature UnexpectedKeyGenMessage \
+        TooManyKeyGenMessages InvalidKeyGenMessageEra UnexpectedKeyGenPart UnexpectedKeyGenAck SyncKeyGenPart.RowCount SyncKeyGenPart.MultipleParts \
+        SyncKeyGenPart.DecryptRow SyncKeyGenPart.DeserializeRow SyncKeyGenPart.RowCommitment SyncKeyGenAck.ValueCount SyncKeyGenAck.MissingPart \
+        SyncKeyGenAck.DecryptValue SyncKeyGenAck.DeserializeValue SyncKeyGenAck.ValueCommitment";
+    put(out, at, word(names, number))
 }
 
 // A fault as `ID:KIND`.
@@ -41,14 +50,6 @@ pub(crate) fn put_fault(out: &mut [u8], at: usize, id: u32, kind: u8) -> usize {
     let a = put_number(out, at, id as u64);
     let b = put(out, a, b":");
     put_kind(out, b, kind)
-}
-
-// A mark before every item but the first.
-fn put_between(out: &mut [u8], at: usize, some: bool, mark: &[u8]) -> usize {
-    if some {
-        return put(out, at, mark);
-    }
-    at
 }
 
 // The places that are marked, ascending, with a plus between two; `-` for none.
@@ -167,7 +168,7 @@ pub(crate) fn put_votes(out: &mut [u8], at: usize, vs: SignedVotes) -> usize {
     let mut i: usize = 0;
     while i < n {
         let x = vs.votes[i];
-        m = put_comma(out, m, i);
+        m = put_between(out, m, 0 < i, b",");
         m = put_vote(out, m, x);
         i += 1;
     }

@@ -1,27 +1,21 @@
-// The calls of a log on one replica. Each answers one line; a line that is no call changes nothing. The checker writes out a large value's type at
+// The calls of a log that may change a replica. Each answers one line; a line that is no call changes nothing. The checker writes out a large value's type at
 // each step of a function that makes one, so those that make a replica or a host are short.
 use crate::answers::put_fault;
-use crate::fields::first as first_bytes;
-use crate::parse::Arrival;
-use crate::parse::Call;
-use crate::parse::Command;
+use crate::fields::BYTES;
+use crate::fields::part;
+use crate::kept::PLACES;
+use crate::parse::Agreed;
+use crate::parse::New;
 use crate::parse::OwnVote;
-use crate::parse::Start;
-use crate::parse::parse;
-use crate::queries::ask;
-use crate::queries::look_up;
-use crate::text::bad_line;
-use crate::text::no_engine;
+use crate::text::OUT;
 use crate::text::put;
 use crate::text::refused;
 use crate::text::say;
 use crate::text::say_first;
-use crate::text::say_word;
 use batch::Batch;
-use change::ChangeState;
 use dynamic_honey_badger::DynamicHoneyBadger;
-use dynamic_honey_badger::Handled;
 use dynamic_honey_badger::Handling;
+use dynamic_honey_badger::Started;
 use dynamic_honey_badger::VoteDone;
 use dynamic_honey_badger::Voted;
 use fault_log::FaultKind;
@@ -53,7 +47,7 @@ fn say_vote(out: &mut [u8], r: Voted) -> usize {
     let vote = r.vote;
     match outcome {
         VoteDone::Cast => say_cast(out, vote),
-        VoteDone::Nothing => say_word(out, b"nothing"),
+        VoteDone::Nothing => put(out, 0, b"nothing\n"),
         VoteDone::Refused(n) => refused(out, n),
     }
 }
@@ -68,21 +62,22 @@ fn say_fault(out: &mut [u8], sender: u32, kind: FaultKind) -> usize {
 // What a message answers.
 fn say_handling(out: &mut [u8], sender: u32, outcome: Handling) -> usize {
     match outcome {
-        Handling::Quiet => say_word(out, b"handled"),
+        Handling::Quiet => put(out, 0, b"handled\n"),
         Handling::Faulty(k) => say_fault(out, sender, k),
         Handling::Refused(n) => refused(out, n),
     }
 }
 
 // What a start answers.
-fn say_start(out: &mut [u8], outcome: StartOutcome) -> usize {
+pub(crate) fn say_start(out: &mut [u8; OUT], r: Started) -> usize {
+    let outcome = r.outcome;
     match outcome {
-        StartOutcome::Accepted => say_word(out, b"started"),
+        StartOutcome::Accepted => put(out, 0, b"started\n"),
         StartOutcome::Refused(k) => refused(out, k),
     }
 }
 
-fn accepted(outcome: StartOutcome) -> bool {
+pub(crate) fn accepted(outcome: StartOutcome) -> bool {
     match outcome {
         StartOutcome::Accepted => true,
         StartOutcome::Refused(_) => false,
@@ -96,41 +91,17 @@ fn reported(outcome: BatchOutcome) -> bool {
     }
 }
 
-// A report that stands in until there is one.
-fn no_report(replica: DynamicHoneyBadger) -> Batch {
-    let counter = replica.vote_counter;
-    let pub_keys = counter.pub_keys;
-    let params = replica.params;
-    Batch {
-        epoch: 0,
-        era: 0,
-        change: ChangeState::none(),
-        pub_keys,
-        params,
-    }
-}
-
 fn cast(replica: DynamicHoneyBadger, v: OwnVote, bytes: &[u8]) -> Voted {
     match v {
-        OwnVote::For(n) => replica.vote_for(first_bytes(bytes, n)),
+        OwnVote::For(n) => replica.vote_for(part(bytes, 0, n)),
         OwnVote::Add(id, key) => replica.vote_to_add(id, key),
         OwnVote::Remove(id) => replica.vote_to_remove(id),
     }
 }
 
-fn handle(replica: DynamicHoneyBadger, a: Arrival, bytes: &[u8]) -> Handled {
-    match a {
-        Arrival::Message(sender, n) => replica.handle_message(sender, first_bytes(bytes, n)),
-        Arrival::Due(n) => due_item::handle_due_item(replica, first_bytes(bytes, n)),
-    }
-}
-
-// Whose fault it would be; a due item has no sender.
-fn sender_of(a: Arrival) -> u32 {
-    match a {
-        Arrival::Message(sender, _) => sender,
-        Arrival::Due(_) => 0,
-    }
+pub(crate) fn open(n: New, bytes: &[u8; BYTES]) -> Started {
+    let map = part(bytes, 0, n.map);
+    DynamicHoneyBadger::new(n.id, n.key, n.era, map, part(bytes, n.map, n.params))
 }
 
 impl Host {
@@ -142,151 +113,96 @@ impl Host {
             started: false,
             replica,
             reported: false,
-            report: no_report(replica),
+            report: Batch::empty(),
             said: 0,
         }
     }
 
-    // The host of a replica that has started, with the last report, if it is one.
-    fn of(replica: DynamicHoneyBadger, reported: bool, report: Batch, said: usize) -> Self {
+    // The host of a replica that starts, with no report yet.
+    pub(crate) fn begin(self, replica: DynamicHoneyBadger) -> Self {
+        let report = self.report;
         Host {
             started: true,
             replica,
-            reported,
+            reported: false,
+            report,
+            said: self.said,
+        }
+    }
+
+    pub(crate) fn vote(mut self, v: OwnVote, bytes: &[u8; BYTES], out: &mut [u8; OUT]) -> Self {
+        let replica = self.replica;
+        let r = cast(replica, v, bytes);
+        self.said = say_vote(out, r);
+        let next = r.state;
+        self.replica = next;
+        self
+    }
+
+    pub(crate) fn receive(
+        self,
+        sender: u32,
+        n: usize,
+        bytes: &[u8; BYTES],
+        out: &mut [u8; OUT],
+    ) -> Self {
+        let replica = self.replica;
+        let r = replica.handle_message(sender, part(bytes, 0, n));
+        let outcome = r.outcome;
+        let said = say_handling(out, sender, outcome);
+        let next = r.state;
+        self.with(next, said)
+    }
+
+    // A due item has no sender whose fault it could be.
+    pub(crate) fn take_back(self, n: usize, bytes: &[u8; BYTES], out: &mut [u8; OUT]) -> Self {
+        let replica = self.replica;
+        let r = due_item::handle_due_item(replica, part(bytes, 0, n));
+        let outcome = r.outcome;
+        let said = say_handling(out, 0, outcome);
+        let next = r.state;
+        self.with(next, said)
+    }
+
+    fn with(self, replica: DynamicHoneyBadger, said: usize) -> Self {
+        let report = self.report;
+        Host {
+            started: true,
+            replica,
+            reported: self.reported,
             report,
             said,
         }
     }
 
-    // The same after an answer.
-    fn saying(mut self, said: usize) -> Self {
+    // What a batch left: where it was refused, the state given, and the last report is kept.
+    fn after(mut self, r: Processed, said: usize) -> Self {
         self.said = said;
+        let next = r.state;
+        self.replica = next;
+        let outcome = r.outcome;
+        if reported(outcome) {
+            let report = r.batch;
+            self.reported = true;
+            self.report = report;
+        }
         self
     }
 
-    fn with(self, replica: DynamicHoneyBadger, said: usize) -> Self {
-        let report = self.report;
-        Host::of(replica, self.reported, report, said)
-    }
-
-    // A replica that has started, with no report yet.
-    fn begin(self, replica: DynamicHoneyBadger, said: usize) -> Self {
-        let report = self.report;
-        Host::of(replica, false, report, said)
-    }
-
-    fn start(self, id: u32, key: u64, era: u64, map: &[u8], params: &[u8], out: &mut [u8]) -> Self {
-        let r = DynamicHoneyBadger::new(id, key, era, map, params);
-        let outcome = r.outcome;
-        let said = say_start(out, outcome);
-        if accepted(outcome) {
-            let replica = r.state;
-            return self.begin(replica, said);
-        }
-        self.saying(said)
-    }
-
-    fn join(self, id: u32, key: u64, plan: &[u8], places: usize, out: &mut [u8]) -> Self {
-        let joined = crate::join::join(id, key, plan, places, out);
-        let r = joined.started;
-        let outcome = r.outcome;
-        if accepted(outcome) {
-            let replica = r.state;
-            return self.begin(replica, joined.said);
-        }
-        self.saying(joined.said)
-    }
-
-    fn first_call(self, s: Start, first: &[u8], second: &[u8], out: &mut [u8]) -> Self {
-        match s {
-            Start::New(id, key, era, n, m) => {
-                let map = first_bytes(first, n);
-                self.start(id, key, era, map, first_bytes(second, m), out)
-            }
-            Start::Join(id, key, n, places) => {
-                self.join(id, key, first_bytes(first, n), places, out)
-            }
-        }
-    }
-
-    fn vote(self, v: OwnVote, bytes: &[u8], out: &mut [u8]) -> Self {
-        let replica = self.replica;
-        let r = cast(replica, v, bytes);
-        let said = say_vote(out, r);
-        let next = r.state;
-        self.with(next, said)
-    }
-
-    fn receive(self, a: Arrival, bytes: &[u8], out: &mut [u8]) -> Self {
-        let replica = self.replica;
-        let r = handle(replica, a, bytes);
-        let outcome = r.outcome;
-        let said = say_handling(out, sender_of(a), outcome);
-        let next = r.state;
-        self.with(next, said)
-    }
-
-    // A refused batch keeps the last report.
-    fn processed(self, r: Processed, said: usize) -> Self {
-        let outcome = r.outcome;
-        if reported(outcome) {
-            let next = r.state;
-            let report = r.batch;
-            return Host::of(next, true, report, said);
-        }
-        self.saying(said)
-    }
-
-    fn process(
+    pub(crate) fn batch(
         self,
-        inner: u64,
-        batch: &[u8],
-        verdicts: &[u8],
-        faults: usize,
-        due: usize,
-        out: &mut [u8],
+        b: Agreed,
+        bytes: &[u8; BYTES],
+        out: &mut [u8; OUT],
+        ids: &mut [u32; PLACES],
+        kinds: &mut [u8; PLACES],
+        due_kinds: &mut [u8; PLACES],
+        indices: &mut [u64; PLACES],
+        eras: &mut [u64; PLACES],
     ) -> Self {
         let replica = self.replica;
-        let answered = crate::lent::process(replica, inner, batch, verdicts, faults, due, out);
-        let r = answered.processed;
-        self.processed(r, answered.said)
-    }
-
-    fn command(self, c: Command, first: &[u8], second: &[u8], out: &mut [u8]) -> Self {
-        if !self.started {
-            return self.saying(no_engine(out));
-        }
-        match c {
-            Command::Vote(v) => self.vote(v, first, out),
-            Command::Arrival(a) => self.receive(a, first, out),
-            Command::Batch(inner, n, m, faults, due) => {
-                let batch = first_bytes(first, n);
-                self.process(inner, batch, first_bytes(second, m), faults, due, out)
-            }
-        }
-    }
-
-    // A line that is skipped answers nothing.
-    fn answer_call(self, call: Call, first: &[u8], second: &[u8], out: &mut [u8]) -> Self {
-        match call {
-            Call::Start(s) => self.first_call(s, first, second, out),
-            Call::Command(c) => self.command(c, first, second, out),
-            Call::Query(q) => self.saying(ask(self, q, out)),
-            Call::Lookup(l) => self.saying(look_up(l, first, out)),
-            Call::Bad => self.saying(bad_line(out)),
-            Call::Skipped => self.saying(0),
-        }
-    }
-
-    // Puts the answer of a line into `out`.
-    pub(crate) fn answer(
-        self,
-        line: &[u8],
-        first: &mut [u8],
-        second: &mut [u8],
-        out: &mut [u8],
-    ) -> Self {
-        let call = parse(line, first, second);
-        self.answer_call(call, first, second, out)
+        let r = crate::lent::call(replica, b, bytes, ids, kinds, due_kinds, indices, eras);
+        let said = crate::lent::answer(out, r, b, ids, kinds, due_kinds, indices, eras);
+        self.after(r, said)
     }
 }

@@ -1,5 +1,5 @@
 // The fields of a line: words, numbers and bytes, with one space between two of them.
-ghost use Prim.Native.Nat.{_≤_};
+ghost use Prim.Native.Nat.{_+_, _*_, _≤_};
 ghost use lib.ListN.{length};
 
 // The greatest number of a field: of most, of an id, and of a lent length.
@@ -9,14 +9,45 @@ pub const MOST_ID: u64 = 4294967295;
 
 pub const MOST_PLACES: u64 = 2000;
 
-// The end of the field that starts at a place: the next space, or the line's end.
-fn field_end(s: &[u8], from: usize) -> usize
+// The bytes of a line's fields that hold hexadecimal digits: half as many as a line has.
+pub const BYTES: usize = 70000;
+
+// Whether one of the 64 bytes at a place is the one looked for. The loop has no exit, so that many bytes are compared at once.
+fn has_in_block(s: &[u8], at: usize, b: u8) -> bool
+    requires { ⌜ at + 64 ≤ length (now s) ⌝ }
+{
+    let mut found = false;
+    let mut i: usize = 0;
+    while i < 64 {
+        found = found | (s[at + i] == b);
+        i += 1;
+    }
+    found
+}
+
+// The start of the first block, from a place on, that has the byte looked for, or of what is left behind the last.
+fn skip_blocks(s: &[u8], from: usize, b: u8) -> usize
     requires { ⌜ from ≤ length (now s) ⌝ }
     ensures { λ r. ⌜ (from ≤ r) × (r ≤ length (now (s .entry))) ⌝ }
 {
     let mut i = from;
+    while 64 <= s.len() - i {
+        if has_in_block(s, i, b) {
+            return i;
+        }
+        i += 64;
+    }
+    i
+}
+
+// The place of the first such byte at or after `from`, or the length.
+pub(crate) fn find(s: &[u8], from: usize, b: u8) -> usize
+    requires { ⌜ from ≤ length (now s) ⌝ }
+    ensures { λ r. ⌜ (from ≤ r) × (r ≤ length (now (s .entry))) ⌝ }
+{
+    let mut i = skip_blocks(s, from, b);
     while i < s.len() {
-        if s[i] == b' ' {
+        if s[i] == b {
             return i;
         }
         i += 1;
@@ -24,37 +55,55 @@ fn field_end(s: &[u8], from: usize) -> usize
     i
 }
 
-// How many fields a line has: one more than it has spaces.
-pub(crate) fn count(s: &[u8]) -> u64 {
-    let mut n: u64 = 1;
-    let mut i: usize = 0;
-    while i < s.len() {
-        if s[i] == b' ' {
-            if n < 1000000 {
-                n += 1;
-            }
-        }
-        i += 1;
-    }
-    n
+// Where the fields of a line start and end, and how many there are. No call has more than six, so a seventh ends the search.
+pub struct Fields {
+    pub count: usize,
+    pub starts: [usize; 7],
+    pub ends: [usize; 7],
 }
 
-// The field with a number, counted from 0; the empty one at the end where there are fewer.
-pub(crate) fn field(s: &[u8], k: u64) -> &[u8] {
-    let n = s.len();
-    let mut start: usize = 0;
-    let mut i: u64 = 0;
-    while i < k {
-        let e = field_end(s, start);
-        if e < n {
-            start = e + 1;
-        } else {
-            start = n;
+pub(crate) fn split(s: &[u8]) -> Fields {
+    let mut starts = [0usize; 7];
+    let mut ends = [0usize; 7];
+    let mut at: usize = 0;
+    let mut n: usize = 0;
+    while n < 7 {
+        let e = find(s, at, b' ');
+        starts[n] = at;
+        ends[n] = e;
+        n += 1;
+        if e == s.len() {
+            return Fields {
+                count: n,
+                starts,
+                ends,
+            };
         }
-        i += 1;
+        at = e + 1;
     }
-    let e = field_end(s, start);
-    &s[start..e]
+    Fields {
+        count: n,
+        starts,
+        ends,
+    }
+}
+
+// A part of a slice; empty where there is none.
+pub(crate) fn part(s: &[u8], from: usize, to: usize) -> &[u8] {
+    if from <= to {
+        if to <= s.len() {
+            return &s[from..to];
+        }
+    }
+    &s[0..0]
+}
+
+// The field with a number, counted from 0.
+pub(crate) fn field(s: &[u8], f: Fields, k: usize) -> &[u8] {
+    if k < 7 {
+        return part(s, f.starts[k], f.ends[k]);
+    }
+    &s[0..0]
 }
 
 pub(crate) fn equal(a: &[u8], b: &[u8]) -> bool {
@@ -113,82 +162,59 @@ pub(crate) fn number(s: &[u8], most: u64) -> Parsed {
     Parsed::Value(x)
 }
 
-pub enum ParsedId {
-    Value(u32),
-    Bad,
-}
-
-// A number that is an id.
-pub(crate) fn node_id(s: &[u8]) -> ParsedId {
-    let Parsed::Value(x) = number(s, MOST_ID) else {
-        return ParsedId::Bad;
-    };
-    if MOST_ID < x {
-        return ParsedId::Bad;
-    }
-    ParsedId::Value(x as u32)
-}
-
-pub enum Digit {
-    Value(u8),
-    Nothing,
-}
-
-fn digit_of(b: u8) -> Digit {
+// What a hexadecimal digit stands for, and 16 where a byte is none.
+fn digit_of(b: u8) -> u8 {
     if b < b'0' {
-        return Digit::Nothing;
+        return 16;
     }
     if b <= b'9' {
-        return Digit::Value((b - b'0') % 16);
+        return b - b'0';
     }
     if b < b'a' {
-        return Digit::Nothing;
+        return 16;
     }
     if b <= b'f' {
-        return Digit::Value((b - b'a' + 10) % 16);
+        return b - b'a' + 10;
     }
-    Digit::Nothing
+    16
 }
 
-pub enum Unhexed {
-    Count(usize),
-    Bad,
+// Puts the bytes of n pairs of digits at a place; the answer is below 16 where all were digits. This loop has no exit either.
+fn put_bytes(s: &[u8], n: usize, out: &mut [u8], at: usize) -> u8
+    requires { ⌜ (2 * n ≤ length (now s)) × (at + n ≤ length (now out)) ⌝ }
+{
+    let mut seen: u8 = 0;
+    let mut i: usize = 0;
+    while i < n {
+        let h = digit_of(s[2 * i]);
+        let l = digit_of(s[2 * i + 1]);
+        seen = seen | h | l;
+        out[at + i] = h % 16 * 16 + l % 16;
+        i += 1;
+    }
+    seen
 }
 
-// The bytes that hexadecimal digits stand for, put into a buffer; `-` is no bytes.
-pub(crate) fn bytes(s: &[u8], out: &mut [u8]) -> Unhexed {
+// The bytes that hexadecimal digits stand for, put into a buffer at a place, and where they end; `-` is no bytes.
+pub(crate) fn bytes(s: &[u8], out: &mut [u8], at: usize) -> Parsed {
     if equal(s, b"-") {
-        return Unhexed::Count(0);
+        return Parsed::Value(at as u64);
     }
     if s.len() == 0 {
-        return Unhexed::Bad;
+        return Parsed::Bad;
     }
     if s.len() % 2 == 1 {
-        return Unhexed::Bad;
+        return Parsed::Bad;
     }
     let n = s.len() / 2;
     if out.len() < n {
-        return Unhexed::Bad;
+        return Parsed::Bad;
     }
-    let mut i: usize = 0;
-    while i < n {
-        let Digit::Value(h) = digit_of(s[2 * i]) else {
-            return Unhexed::Bad;
-        };
-        let Digit::Value(l) = digit_of(s[2 * i + 1]) else {
-            return Unhexed::Bad;
-        };
-        out[i] = h % 16 * 16 + l % 16;
-        i += 1;
+    if out.len() - n < at {
+        return Parsed::Bad;
     }
-    Unhexed::Count(n)
-}
-
-// The first n bytes of a buffer; all of them where there are fewer.
-pub(crate) fn first(s: &[u8], n: usize) -> &[u8] {
-    let all = s.len();
-    if n <= all {
-        return &s[0..n];
+    if 15 < put_bytes(s, n, out, at) {
+        return Parsed::Bad;
     }
-    &s[0..all]
+    Parsed::Value((at + n) as u64)
 }

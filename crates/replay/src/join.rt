@@ -1,85 +1,102 @@
 // A joining as a host makes it: the engine fills lists of due items that it is lent, of the length that the line names.
-ghost use Prim.Native.Nat.{_≤_};
-ghost use lib.ListN.{length};
-use crate::kept::KIND;
-use crate::kept::NUMBER;
+use crate::fields::BYTES;
+use crate::fields::part;
 use crate::kept::PLACES;
+use crate::kept::clear_due;
 use crate::kept::due_kept;
 use crate::kept::put_kept;
-use crate::lent::places;
 use crate::lent::put_due;
+use crate::parse::Join;
+use crate::text::OUT;
 use crate::text::put;
 use crate::text::put_named;
 use crate::text::say;
+use crate::text::smaller;
 use dynamic_honey_badger::DynamicHoneyBadger;
 use dynamic_honey_badger::JoinStarted;
 use joining::StartOutcome;
 
-// What a joining gave, and how many bytes its answer has.
-pub struct Joined {
-    pub started: JoinStarted,
-    pub said: usize,
-}
-
-// What an accepted one answers: its due items.
-fn say_started(out: &mut [u8], n: usize, kinds: &[u8], indices: &[u64], eras: &[u64]) -> usize {
-    let a = put(out, 0, b"started");
-    let b = put_due(out, a, kinds, indices, eras, n);
-    let c = put_kept(out, b, true, due_kept(kinds, indices, eras, n));
-    say(out, c)
-}
-
-// What a refused one answers; no place of its lists may have changed.
-fn say_refused(out: &mut [u8], number: u8, kinds: &[u8], indices: &[u64], eras: &[u64]) -> usize {
-    let a = put_named(out, 0, b"refused ", number as u64);
-    let b = put_kept(out, a, true, due_kept(kinds, indices, eras, 0));
-    say(out, b)
-}
-
-fn answer(out: &mut [u8], r: JoinStarted, kinds: &[u8], indices: &[u64], eras: &[u64]) -> usize {
+// How many due items a joining filled in; none where it was refused.
+fn due_count(r: JoinStarted) -> usize {
     let outcome = r.outcome;
     match outcome {
-        StartOutcome::Accepted => say_started(out, r.due, kinds, indices, eras),
-        StartOutcome::Refused(k) => say_refused(out, k, kinds, indices, eras),
+        StartOutcome::Accepted => r.due,
+        StartOutcome::Refused(_) => 0,
     }
 }
 
-// The call with the first places of the lists.
-fn call(
-    id: u32,
-    key: u64,
-    plan: &[u8],
-    due: usize,
+// What it answers: its due items, or the refusal.
+fn put_outcome(
+    out: &mut [u8],
+    r: JoinStarted,
+    kinds: &[u8],
+    indices: &[u64],
+    eras: &[u64],
+) -> usize {
+    let outcome = r.outcome;
+    match outcome {
+        StartOutcome::Accepted => {
+            let a = put(out, 0, b"started");
+            put_due(out, a, kinds, indices, eras, r.due)
+        }
+        StartOutcome::Refused(k) => put_named(out, 0, b"refused ", k as u64),
+    }
+}
+
+fn say_outcome(
+    out: &mut [u8],
+    r: JoinStarted,
+    named: usize,
     kinds: &mut [u8],
     indices: &mut [u64],
     eras: &mut [u64],
-) -> JoinStarted
-    requires { ⌜ (due ≤ length (now kinds)) × (due ≤ length (now indices)) × (due ≤ length (now eras)) ⌝ }
-{
+) -> usize {
+    let n = due_count(r);
+    let a = put_outcome(out, r, kinds, indices, eras);
+    let b = put_kept(out, a, true, due_kept(kinds, indices, eras, n, named));
+    clear_due(kinds, indices, eras, n);
+    say(out, b)
+}
+
+// Says what a joining answers, looks at the places behind those filled, and clears the lists for the next call.
+pub(crate) fn answer(
+    out: &mut [u8; OUT],
+    r: JoinStarted,
+    j: Join,
+    kinds: &mut [u8; PLACES],
+    indices: &mut [u64; PLACES],
+    eras: &mut [u64; PLACES],
+) -> usize {
+    say_outcome(out, r, j.places, kinds, indices, eras)
+}
+
+// The call with the first places of the lists, as many as the line names.
+fn join(
+    j: Join,
+    plan: &[u8],
+    kinds: &mut [u8],
+    indices: &mut [u64],
+    eras: &mut [u64],
+) -> JoinStarted {
+    let a = smaller(j.places, kinds.len());
+    let b = smaller(j.places, indices.len());
+    let c = smaller(j.places, eras.len());
     DynamicHoneyBadger::new_joining(
-        id,
-        key,
+        j.id,
+        j.key,
         plan,
-        &mut kinds[0..due],
-        &mut indices[0..due],
-        &mut eras[0..due],
+        &mut kinds[..a],
+        &mut indices[..b],
+        &mut eras[..c],
     )
 }
 
-// A joining with lists of so many places.
-pub(crate) fn join(id: u32, key: u64, plan: &[u8], due_places: usize, out: &mut [u8]) -> Joined {
-    let mut kinds = [KIND; PLACES];
-    let mut indices = [NUMBER; PLACES];
-    let mut eras = [NUMBER; PLACES];
-    let started = call(
-        id,
-        key,
-        plan,
-        places(due_places),
-        &mut kinds,
-        &mut indices,
-        &mut eras,
-    );
-    let said = answer(out, started, &kinds, &indices, &eras);
-    Joined { started, said }
+pub(crate) fn call(
+    j: Join,
+    bytes: &[u8; BYTES],
+    kinds: &mut [u8; PLACES],
+    indices: &mut [u64; PLACES],
+    eras: &mut [u64; PLACES],
+) -> JoinStarted {
+    join(j, part(bytes, 0, j.plan), kinds, indices, eras)
 }

@@ -1,144 +1,168 @@
 // Cuts standard input into lines and hands each to the replica's host.
 ghost use mathlib.Core.Path.{_≡_};
-ghost use Prim.Native.Nat.{_≤_};
+ghost use Prim.Native.Nat.{_+_, _≤_};
 ghost use lib.ListN.{length};
 use crate::calls::Host;
-use crate::fields::first as first_bytes;
+use crate::calls::accepted;
+use crate::calls::open;
+use crate::calls::say_start;
+use crate::fields::BYTES;
+use crate::fields::find;
+use crate::fields::part;
+use crate::join;
+use crate::kept::ID;
+use crate::kept::KIND;
+use crate::kept::NUMBER;
+use crate::kept::PLACES;
+use crate::parse::Call;
+use crate::parse::MOST_LINE;
+use crate::parse::parse;
+use crate::queries::ask;
+use crate::text::OUT;
 use libc::STDIN_FILENO;
 use libc::STDOUT_FILENO;
 
-// The place of the first line feed at or after `from`, or the length.
-fn line_end(s: &[u8], from: usize) -> usize
-    requires { ⌜ from ≤ length (now s) ⌝ }
-    ensures { λ r. ⌜ (from ≤ r) × (r ≤ length (now (s .entry))) ⌝ }
-{
-    let mut i = from;
-    while i < s.len() {
-        if s[i] == b'\n' {
-            return i;
-        }
-        i += 1;
-    }
-    i
-}
+// The bytes of the input that are held: a line of the greatest length, and what is read behind it.
+pub const INPUT: usize = 160000;
 
-// Puts `part` behind the n bytes of `line`, as much of it as fits, and answers how many bytes `line` then has.
-fn append(line: &mut [u8], n: usize, part: &[u8]) -> usize
-    requires { ⌜ n ≤ length (now line) ⌝ }
-    ensures { λ r. ⌜ r ≤ length (now (line .exit)) ⌝ }
-{
-    let mut m = n;
-    let mut i: usize = 0;
-    while i < part.len() {
-        if m < line.len() {
-            line[m] = part[i];
-            m += 1;
-        }
-        i += 1;
-    }
-    m
-}
-
-// How far the input is taken: `held` bytes of a line, which is `whole` or not; of the last chunk the bytes from `at` to `filled` are still to
-// be taken; there is no `more` once the input has ended.
+// How far the input is taken: a line from `at` to `end`, which is `whole` or searched so far; bytes that were read reach to `filled`; there is
+// no `more` once the input has ended.
 pub struct Taken {
-    pub held: usize,
-    pub whole: bool,
     pub at: usize,
+    pub end: usize,
     pub filled: usize,
+    pub whole: bool,
     pub more: bool,
 }
 
-// Takes what the chunk has of the line.
-fn take_rest(line: &mut [u8], chunk: &[u8], t: Taken, n: usize) -> Taken
-    requires { ⌜ (n ≤ length (now line)) × (t .at ≤ t .filled) × (t .filled ≤ length (now chunk)) ⌝ }
-    ensures { λ r. ⌜ (r .held ≤ length (now (line .exit))) × (r .at ≤ r .filled) × (r .filled ≤ length (now (chunk .entry))) ⌝ }
+// What a read gave.
+pub struct Got {
+    pub failed: bool,
+    pub count: usize,
+}
+
+// Moves n bytes down to the front, where they do not stand there.
+fn move_down(input: &mut [u8], from: usize, n: usize)
+    requires { ⌜ from + n ≤ length (now input) ⌝ }
 {
-    let at = t.at;
-    let filled = t.filled;
-    let e = line_end(&chunk[0..filled], at);
-    let held = append(line, n, &chunk[at..e]);
-    if e < filled {
-        return Taken {
-            held,
-            whole: true,
-            at: e + 1,
-            filled,
-            more: true,
-        };
+    if from == 0 {
+        return;
     }
-    Taken {
-        held,
-        whole: false,
-        at: e,
-        filled,
-        more: true,
+    let mut i: usize = 0;
+    while i < n {
+        input[i] = input[from + i];
+        i += 1;
     }
 }
 
-// The end of the input, with n bytes of a line held; nothing is left to be taken.
+// Reads what there is, as much as fits.
+fn read_some(room: &mut [u8]) -> Got
+    ensures { λ r. ⌜ r .count ≤ length (now (room .exit)) ⌝ }
+{
+    let got = libc::read(STDIN_FILENO, room);
+    if got < 0 {
+        os::fail(b"replay: standard input");
+        return Got {
+            failed: true,
+            count: 0,
+        };
+    }
+    let count = io::count(got, room);
+    Got {
+        failed: false,
+        count,
+    }
+}
+
+// How many of n bytes of an unfinished line are kept: one more than a line may have, which is enough to tell that it is too long.
+fn kept_of(n: usize) -> usize
+    ensures { λ r. ⌜ r ≤ n ⌝ }
+{
+    if n <= MOST_LINE { n } else { MOST_LINE + 1 }
+}
+
+// The end of the input, with n bytes of a line.
 fn ended(n: usize) -> Taken
-    ensures { λ r. ⌜ (r .held ≡ n) × (r .at ≡ 0) × (r .filled ≡ 0) ⌝ }
+    ensures { λ r. ⌜ (r .at ≤ r .end) × (r .end ≤ r .filled) × (r .filled ≡ n) ⌝ }
 {
     Taken {
-        held: n,
-        whole: true,
         at: 0,
-        filled: 0,
+        end: n,
+        filled: n,
+        whole: true,
         more: false,
     }
 }
 
-// Reads a chunk. A last line without a line feed is a line. Where reading fails, that ends the input too, and a line that was cut off there is dropped.
-fn read_chunk(chunk: &mut [u8], n: usize) -> Taken
-    ensures { λ r. ⌜ (r .held ≤ n) × (r .at ≤ r .filled) × (r .filled ≤ length (now (chunk .exit))) ⌝ }
+// Reads behind n bytes of a line. A last line without a line feed is a line. Where reading fails, that ends the input too, and a line that was cut off there is dropped.
+fn read_behind(input: &mut [u8], n: usize) -> Taken
+    requires { ⌜ n ≤ length (now input) ⌝ }
+    ensures { λ r. ⌜ (r .at ≤ r .end) × (r .end ≤ r .filled) × (r .filled ≤ length (now (input .exit))) ⌝ }
 {
-    let got = libc::read(STDIN_FILENO, chunk);
-    if got < 0 {
-        os::fail(b"replay: standard input");
+    let got = read_some(&mut input[n..]);
+    if got.failed {
         return ended(0);
     }
-    if got == 0 {
+    if got.count == 0 {
         return ended(n);
     }
-    let filled = io::count(got, chunk);
     Taken {
-        held: n,
-        whole: false,
         at: 0,
-        filled,
+        end: n,
+        filled: n + got.count,
+        whole: false,
         more: true,
     }
 }
 
-// How much of the next line is held: after a whole line nothing.
-fn begun(t: Taken) -> usize
-    ensures { λ r. ⌜ r ≤ t .held ⌝ }
+// Brings what is held of a line to the front, and reads behind it.
+fn refill(input: &mut [u8], at: usize, filled: usize) -> Taken
+    requires { ⌜ (at ≤ filled) × (filled ≤ length (now input)) ⌝ }
+    ensures { λ r. ⌜ (r .at ≤ r .end) × (r .end ≤ r .filled) × (r .filled ≤ length (now (input .exit))) ⌝ }
 {
-    if t.whole { 0 } else { t.held }
+    let n = kept_of(filled - at);
+    move_down(input, at, n);
+    read_behind(input, n)
 }
 
-// One turn: takes from the chunk where bytes are left, and else reads the next one.
-fn take_some(line: &mut [u8], chunk: &mut [u8], t: Taken) -> Taken
-    requires { ⌜ (t .held ≤ length (now line)) × (t .at ≤ t .filled) × (t .filled ≤ length (now chunk)) ⌝ }
-    ensures { λ r. ⌜ (r .held ≤ length (now (line .exit))) × (r .at ≤ r .filled) × (r .filled ≤ length (now (chunk .exit))) ⌝ }
+// Searches the line that starts at a place, from another on.
+fn search(input: &[u8], at: usize, from: usize, filled: usize) -> Taken
+    requires { ⌜ (at ≤ from) × (from ≤ filled) × (filled ≤ length (now input)) ⌝ }
+    ensures { λ r. ⌜ (r .at ≤ r .end) × (r .end ≤ r .filled) × (r .filled ≤ length (now (input .entry))) ⌝ }
 {
-    let n = begun(t);
-    if t.at < t.filled {
-        return take_rest(line, chunk, t, n);
+    let end = find(&input[0..filled], from, b'\n');
+    Taken {
+        at,
+        end,
+        filled,
+        whole: end < filled,
+        more: true,
     }
-    read_chunk(chunk, n)
+}
+
+// One turn: behind a whole line the next one starts; where all that was read is searched, more is read.
+fn take_some(input: &mut [u8], t: Taken) -> Taken
+    requires { ⌜ (t .at ≤ t .end) × (t .end ≤ t .filled) × (t .filled ≤ length (now input)) ⌝ }
+    ensures { λ r. ⌜ (r .at ≤ r .end) × (r .end ≤ r .filled) × (r .filled ≤ length (now (input .exit))) ⌝ }
+{
+    if t.end < t.filled {
+        if t.whole {
+            return search(input, t.end + 1, t.end + 1, t.filled);
+        }
+        return search(input, t.at, t.end, t.filled);
+    }
+    refill(input, t.at, t.filled)
 }
 
 // The next line. A proved loop has to end, so it counts its turns down, from a number that no run uses up.
-fn next_line(line: &mut [u8], chunk: &mut [u8], from: Taken) -> Taken
-    requires { ⌜ (from .held ≤ length (now line)) × (from .at ≤ from .filled) × (from .filled ≤ length (now chunk)) ⌝ }
-    ensures { λ r. ⌜ (r .held ≤ length (now (line .exit))) × (r .at ≤ r .filled) × (r .filled ≤ length (now (chunk .exit))) ⌝ }
+fn next_line(input: &mut [u8], from: Taken) -> Taken
+    requires { ⌜ (from .at ≤ from .end) × (from .end ≤ from .filled) × (from .filled ≤ length (now input)) ⌝ }
+    ensures { λ r. ⌜ (r .at ≤ r .end) × (r .end ≤ r .filled) × (r .filled ≤ length (now (input .exit))) ⌝ }
 {
     let mut t = from;
     let mut turns = u64::MAX;
     while 0 < turns {
-        t = take_some(line, chunk, t);
+        t = take_some(input, t);
         if t.whole {
             return t;
         }
@@ -148,31 +172,85 @@ fn next_line(line: &mut [u8], chunk: &mut [u8], from: Taken) -> Taken
 }
 
 // Writes an answer, the first n bytes of `out`, and answers whether to go on; where writing fails, it says so on standard error.
-fn tell(out: &[u8], n: usize, more: bool) -> bool {
-    if io::write_all(STDOUT_FILENO, first_bytes(out, n)) {
+fn tell(out: &[u8; OUT], n: usize, more: bool) -> bool {
+    if io::write_all(STDOUT_FILENO, part(out, 0, n)) {
         return more;
     }
     os::fail(b"replay: standard output");
     false
 }
 
-// Reads to the end of the input, with turns counted down as above.
-pub(crate) fn read_all(line: &mut [u8], first: &mut [u8], second: &mut [u8], out: &mut [u8]) {
-    let mut chunk = io::large_buffer();
+// Reads to the end of the input, with turns counted down as above. Each arm hands the host to one function and takes it back, so that its state is moved once in and once out; a
+// question moves none of it. The arrays are lent with their lengths in the type, so no arm has to keep track of them.
+pub(crate) fn read_all() {
+    let mut input = [0u8; INPUT];
+    let mut bytes = [0u8; BYTES];
+    let mut out = [0u8; OUT];
+    let mut ids = [ID; PLACES];
+    let mut kinds = [KIND; PLACES];
+    let mut due_kinds = [KIND; PLACES];
+    let mut indices = [NUMBER; PLACES];
+    let mut eras = [NUMBER; PLACES];
     let mut host = Host::new();
     let mut t = Taken {
-        held: 0,
-        whole: false,
         at: 0,
+        end: 0,
         filled: 0,
+        whole: false,
         more: true,
     };
     let mut turns = u64::MAX;
     while 0 < turns {
-        t = next_line(line, &mut chunk, t);
-        let held = t.held;
-        host = host.answer(&line[0..held], first, second, out);
-        if !tell(out, host.said, t.more) {
+        t = next_line(&mut input, t);
+        let at = t.at;
+        let end = t.end;
+        let call = parse(&input[at..end], &mut bytes, host.started);
+        match call {
+            Call::New(n) => {
+                let r = open(n, &bytes);
+                let outcome = r.outcome;
+                host.said = say_start(&mut out, r);
+                if accepted(outcome) {
+                    let replica = r.state;
+                    host = host.begin(replica);
+                }
+            }
+            Call::Join(j) => {
+                let r = join::call(j, &bytes, &mut due_kinds, &mut indices, &mut eras);
+                let outcome = r.outcome;
+                host.said = join::answer(&mut out, r, j, &mut due_kinds, &mut indices, &mut eras);
+                if accepted(outcome) {
+                    let replica = r.state;
+                    host = host.begin(replica);
+                }
+            }
+            Call::Vote(v) => {
+                host = host.vote(v, &bytes, &mut out);
+            }
+            Call::Message(sender, n) => {
+                host = host.receive(sender, n, &bytes, &mut out);
+            }
+            Call::Due(n) => {
+                host = host.take_back(n, &bytes, &mut out);
+            }
+            Call::Batch(b) => {
+                host = host.batch(
+                    b,
+                    &bytes,
+                    &mut out,
+                    &mut ids,
+                    &mut kinds,
+                    &mut due_kinds,
+                    &mut indices,
+                    &mut eras,
+                );
+            }
+            Call::Ask(q) => {
+                let said = ask(host, q, &bytes, &mut out);
+                host.said = said;
+            }
+        }
+        if !tell(&out, host.said, t.more) {
             return;
         }
         turns -= 1;

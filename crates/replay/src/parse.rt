@@ -1,339 +1,281 @@
-// What a line of a log asks, read off it before the replica is touched. A number of bytes is how many of them stand in the buffer that they were put into.
+// What a line of a log asks, read off it before the replica is touched. Bytes of a field are put into a buffer, those of a second field behind those of the first; where they
+// end stands for them.
+use crate::fields::BYTES;
+use crate::fields::Fields;
 use crate::fields::MOST;
+use crate::fields::MOST_ID;
 use crate::fields::MOST_PLACES;
 use crate::fields::Parsed;
-use crate::fields::ParsedId;
-use crate::fields::Unhexed;
-use crate::fields::bytes;
-use crate::fields::count;
+use crate::fields::bytes as put_bytes;
 use crate::fields::equal;
 use crate::fields::field;
-use crate::fields::node_id;
+use crate::fields::find;
 use crate::fields::number;
+use crate::fields::part;
+use crate::fields::split;
 
-// An own vote: for the change of so many bytes, for a node added, for a node removed.
+// The greatest length of a line.
+pub const MOST_LINE: usize = 140000;
+
+// new ID KEY ERA MAP PARAMS
+pub struct New {
+    pub id: u32,
+    pub key: u64,
+    pub era: u64,
+    pub map: usize,
+    pub params: usize,
+}
+
+// join ID KEY PLAN DUE_PLACES
+pub struct Join {
+    pub id: u32,
+    pub key: u64,
+    pub plan: usize,
+    pub places: usize,
+}
+
+// batch INNER BATCH VERDICTS FAULT_PLACES DUE_PLACES
+pub struct Agreed {
+    pub inner: u64,
+    pub batch: usize,
+    pub verdicts: usize,
+    pub faults: usize,
+    pub due: usize,
+}
+
+// An own vote: for the change of bytes, for a node added, for a node removed.
 pub enum OwnVote {
     For(usize),
     Add(u32, u64),
     Remove(u32),
 }
 
-// What came from another node or is due.
-pub enum Arrival {
-    Message(u32, usize),
-    Due(usize),
-}
-
-// The calls that start a replica.
-pub enum Start {
-    New(u32, u64, u64, usize, usize),
-    Join(u32, u64, usize, usize),
-}
-
-// The calls that may change one.
-pub enum Command {
-    Vote(OwnVote),
-    Arrival(Arrival),
-    Batch(u64, usize, usize, usize, usize),
-}
-
-// The calls that ask one and change nothing.
-pub enum ReplicaQuery {
+// The calls that ask the replica and change nothing; those that need none; and lines that are no call.
+pub enum Question {
+    Plan(u64, usize),
     Stored(usize),
     Pending(usize),
     Propose(bool, u64),
     Next(u64),
     State,
-}
-
-// Those, and the one that asks the last report.
-pub enum Query {
-    Plan(u64, usize),
-    Replica(ReplicaQuery),
-}
-
-// The calls that need no replica.
-pub enum Lookup {
+    NoEngine,
     Schedule(u64, usize),
     User(u32, usize),
+    Bad,
+    Skipped,
 }
 
 pub enum Call {
-    Skipped,
-    Bad,
-    Start(Start),
-    Command(Command),
-    Query(Query),
-    Lookup(Lookup),
+    New(New),
+    Join(Join),
+    Vote(OwnVote),
+    Message(u32, usize),
+    Due(usize),
+    Batch(Agreed),
+    Ask(Question),
 }
 
-fn ask(q: ReplicaQuery) -> Call {
-    Call::Query(Query::Replica(q))
+// The numbers of a line's fields behind the word; of bytes, where they end.
+pub struct Values {
+    pub good: bool,
+    pub numbers: [u64; 5],
 }
 
-// new ID KEY ERA MAP PARAMS
-fn parse_new(line: &[u8], first: &mut [u8], second: &mut [u8]) -> Call {
-    let ParsedId::Value(id) = node_id(field(line, 1)) else {
-        return Call::Bad;
-    };
-    let Parsed::Value(key) = number(field(line, 2), MOST) else {
-        return Call::Bad;
-    };
-    let Parsed::Value(era) = number(field(line, 3), MOST) else {
-        return Call::Bad;
-    };
-    let Unhexed::Count(n) = bytes(field(line, 4), first) else {
-        return Call::Bad;
-    };
-    let Unhexed::Count(m) = bytes(field(line, 5), second) else {
-        return Call::Bad;
-    };
-    Call::Start(Start::New(id, key, era, n, m))
+// A form's number, and where in the list of forms its letters are.
+pub struct Form {
+    pub number: u64,
+    pub start: usize,
+    pub end: usize,
 }
 
-// batch INNER BATCH VERDICTS FAULT_PLACES DUE_PLACES
-fn parse_batch(line: &[u8], first: &mut [u8], second: &mut [u8]) -> Call {
-    let Parsed::Value(inner) = number(field(line, 1), MOST) else {
-        return Call::Bad;
-    };
-    let Unhexed::Count(n) = bytes(field(line, 2), first) else {
-        return Call::Bad;
-    };
-    let Unhexed::Count(m) = bytes(field(line, 3), second) else {
-        return Call::Bad;
-    };
-    let Parsed::Value(faults) = number(field(line, 4), MOST_PLACES) else {
-        return Call::Bad;
-    };
-    let Parsed::Value(due) = number(field(line, 5), MOST_PLACES) else {
-        return Call::Bad;
-    };
-    Call::Command(Command::Batch(inner, n, m, faults as usize, due as usize))
-}
-
-// join ID KEY PLAN DUE_PLACES
-fn parse_join(line: &[u8], first: &mut [u8]) -> Call {
-    let ParsedId::Value(id) = node_id(field(line, 1)) else {
-        return Call::Bad;
-    };
-    let Parsed::Value(key) = number(field(line, 2), MOST) else {
-        return Call::Bad;
-    };
-    let Unhexed::Count(n) = bytes(field(line, 3), first) else {
-        return Call::Bad;
-    };
-    let Parsed::Value(places) = number(field(line, 4), MOST_PLACES) else {
-        return Call::Bad;
-    };
-    Call::Start(Start::Join(id, key, n, places as usize))
-}
-
-// add ID KEY
-fn parse_add(line: &[u8]) -> Call {
-    let ParsedId::Value(id) = node_id(field(line, 1)) else {
-        return Call::Bad;
-    };
-    let Parsed::Value(key) = number(field(line, 2), MOST) else {
-        return Call::Bad;
-    };
-    Call::Command(Command::Vote(OwnVote::Add(id, key)))
-}
-
-// message SENDER MESSAGE
-fn parse_message(line: &[u8], first: &mut [u8]) -> Call {
-    let ParsedId::Value(sender) = node_id(field(line, 1)) else {
-        return Call::Bad;
-    };
-    let Unhexed::Count(n) = bytes(field(line, 2), first) else {
-        return Call::Bad;
-    };
-    Call::Command(Command::Arrival(Arrival::Message(sender, n)))
-}
-
-// plan KEYSET BYTES, of the last report
-fn parse_plan(line: &[u8]) -> Call {
-    let Parsed::Value(set) = number(field(line, 1), MOST) else {
-        return Call::Bad;
-    };
-    let Parsed::Value(places) = number(field(line, 2), MOST_PLACES) else {
-        return Call::Bad;
-    };
-    Call::Query(Query::Plan(set, places as usize))
-}
-
-// propose HAS_INPUT PROPOSALS
-fn parse_propose(line: &[u8]) -> Call {
-    let Parsed::Value(input) = number(field(line, 1), 1) else {
-        return Call::Bad;
-    };
-    let Parsed::Value(proposals) = number(field(line, 2), MOST) else {
-        return Call::Bad;
-    };
-    ask(ReplicaQuery::Propose(input == 1, proposals))
-}
-
-// schedule EPOCH SCHEDULE
-fn parse_schedule(line: &[u8], first: &mut [u8]) -> Call {
-    let Parsed::Value(epoch) = number(field(line, 1), MOST) else {
-        return Call::Bad;
-    };
-    let Unhexed::Count(n) = bytes(field(line, 2), first) else {
-        return Call::Bad;
-    };
-    Call::Lookup(Lookup::Schedule(epoch, n))
-}
-
-// user STATION BATCH
-fn parse_user(line: &[u8], first: &mut [u8]) -> Call {
-    let ParsedId::Value(id) = node_id(field(line, 1)) else {
-        return Call::Bad;
-    };
-    let Unhexed::Count(n) = bytes(field(line, 2), first) else {
-        return Call::Bad;
-    };
-    Call::Lookup(Lookup::User(id, n))
-}
-
-// vote CHANGE
-fn parse_vote(line: &[u8], first: &mut [u8]) -> Call {
-    let Unhexed::Count(n) = bytes(field(line, 1), first) else {
-        return Call::Bad;
-    };
-    Call::Command(Command::Vote(OwnVote::For(n)))
-}
-
-// remove ID
-fn parse_remove(line: &[u8]) -> Call {
-    let ParsedId::Value(id) = node_id(field(line, 1)) else {
-        return Call::Bad;
-    };
-    Call::Command(Command::Vote(OwnVote::Remove(id)))
-}
-
-// due MESSAGE
-fn parse_due(line: &[u8], first: &mut [u8]) -> Call {
-    let Unhexed::Count(n) = bytes(field(line, 1), first) else {
-        return Call::Bad;
-    };
-    Call::Command(Command::Arrival(Arrival::Due(n)))
-}
-
-// stored PLACE
-fn parse_stored(line: &[u8]) -> Call {
-    let Parsed::Value(place) = number(field(line, 1), MOST) else {
-        return Call::Bad;
-    };
-    ask(ReplicaQuery::Stored(place as usize))
-}
-
-// pending PLACE
-fn parse_pending(line: &[u8]) -> Call {
-    let Parsed::Value(place) = number(field(line, 1), MOST) else {
-        return Call::Bad;
-    };
-    ask(ReplicaQuery::Pending(place as usize))
-}
-
-// next INNER
-fn parse_next(line: &[u8]) -> Call {
-    let Parsed::Value(inner) = number(field(line, 1), MOST) else {
-        return Call::Bad;
-    };
-    ask(ReplicaQuery::Next(inner))
-}
-
-// The calls of one field.
-fn parse_one(line: &[u8], first: &mut [u8]) -> Call {
-    let word = field(line, 0);
-    if equal(word, b"vote") {
-        return parse_vote(line, first);
+fn no_form() -> Form {
+    Form {
+        number: 16,
+        start: 0,
+        end: 0,
     }
-    if equal(word, b"remove") {
-        return parse_remove(line);
-    }
-    if equal(word, b"due") {
-        return parse_due(line, first);
-    }
-    if equal(word, b"stored") {
-        return parse_stored(line);
-    }
-    if equal(word, b"pending") {
-        return parse_pending(line);
-    }
-    if equal(word, b"next") {
-        return parse_next(line);
-    }
-    Call::Bad
 }
 
-// Those of two.
-fn parse_two(line: &[u8], first: &mut [u8]) -> Call {
-    let word = field(line, 0);
-    if equal(word, b"add") {
-        return parse_add(line);
-    }
-    if equal(word, b"message") {
-        return parse_message(line, first);
-    }
-    if equal(word, b"plan") {
-        return parse_plan(line);
-    }
-    if equal(word, b"propose") {
-        return parse_propose(line);
-    }
-    if equal(word, b"schedule") {
-        return parse_schedule(line, first);
-    }
-    if equal(word, b"user") {
-        return parse_user(line, first);
-    }
-    Call::Bad
-}
-
-// Those of five.
-fn parse_five(line: &[u8], first: &mut [u8], second: &mut [u8]) -> Call {
-    let word = field(line, 0);
-    if equal(word, b"new") {
-        return parse_new(line, first, second);
-    }
-    if equal(word, b"batch") {
-        return parse_batch(line, first, second);
-    }
-    Call::Bad
-}
-
-// By the number of fields behind the word.
-fn parse_fields(line: &[u8], first: &mut [u8], second: &mut [u8]) -> Call {
-    match count(line) {
-        1 => {
-            if equal(line, b"state") {
-                return ask(ReplicaQuery::State);
-            }
-            Call::Bad
+// The form of a word in the list of forms.
+fn form_of(forms: &[u8], word: &[u8]) -> Form {
+    let n = forms.len();
+    let mut at: usize = 0;
+    let mut k: u64 = 0;
+    while k < 16 {
+        let e = find(forms, at, b' ');
+        if e == n {
+            return no_form();
         }
-        2 => parse_one(line, first),
-        3 => parse_two(line, first),
-        5 => {
-            if equal(field(line, 0), b"join") {
-                return parse_join(line, first);
-            }
-            Call::Bad
+        let start = e + 1;
+        let end = find(forms, start, b' ');
+        if equal(part(forms, at, e), word) {
+            return Form {
+                number: k,
+                start,
+                end,
+            };
         }
-        6 => parse_five(line, first, second),
-        _ => Call::Bad,
+        if end == n {
+            return no_form();
+        }
+        at = end + 1;
+        k += 1;
+    }
+    no_form()
+}
+
+// The number of a field, by the letter of its kind.
+fn value_of(kind: u8, s: &[u8], bytes: &mut [u8], used: usize) -> Parsed {
+    match kind {
+        b'b' => put_bytes(s, bytes, used),
+        b'i' => number(s, MOST_ID),
+        b'p' => number(s, MOST_PLACES),
+        b'f' => number(s, 1),
+        _ => number(s, MOST),
+    }
+}
+
+// The numbers of all fields behind the word.
+fn values_of(line: &[u8], f: Fields, letters: &[u8], bytes: &mut [u8]) -> Values {
+    let mut numbers = [0u64; 5];
+    let mut used: usize = 0;
+    let mut i: usize = 0;
+    while i < letters.len() {
+        let Parsed::Value(x) = value_of(letters[i], field(line, f, i + 1), bytes, used) else {
+            return Values {
+                good: false,
+                numbers,
+            };
+        };
+        if i < 5 {
+            numbers[i] = x;
+        }
+        if letters[i] == b'b' {
+            used = x as usize;
+        }
+        i += 1;
+    }
+    Values {
+        good: true,
+        numbers,
+    }
+}
+
+fn id_of(x: u64) -> u32 {
+    (x % 4294967296) as u32
+}
+
+fn start_of(k: u64, a: u64, b: u64, c: u64, d: u64, e: u64) -> Call {
+    if k == 6 {
+        return Call::New(New {
+            id: id_of(a),
+            key: b,
+            era: c,
+            map: d as usize,
+            params: e as usize,
+        });
+    }
+    Call::Join(Join {
+        id: id_of(a),
+        key: b,
+        plan: c as usize,
+        places: d as usize,
+    })
+}
+
+fn question_of(k: u64, a: u64, b: u64) -> Question {
+    match k {
+        8 => Question::Plan(a, b as usize),
+        9 => Question::Stored(a as usize),
+        10 => Question::Pending(a as usize),
+        11 => Question::Propose(a == 1, b),
+        12 => Question::Next(a),
+        13 => Question::Schedule(a, b as usize),
+        14 => Question::User(id_of(a), b as usize),
+        15 => Question::State,
+        _ => Question::Bad,
+    }
+}
+
+// The call with a form's number and the numbers of its fields.
+fn call_of(k: u64, a: u64, b: u64, c: u64, d: u64, e: u64) -> Call {
+    match k {
+        0 => Call::Batch(Agreed {
+            inner: a,
+            batch: b as usize,
+            verdicts: c as usize,
+            faults: d as usize,
+            due: e as usize,
+        }),
+        1 => Call::Message(id_of(a), b as usize),
+        2 => Call::Due(a as usize),
+        3 => Call::Vote(OwnVote::For(a as usize)),
+        4 => Call::Vote(OwnVote::Add(id_of(a), b)),
+        5 => Call::Vote(OwnVote::Remove(id_of(a))),
+        6 => start_of(k, a, b, c, d, e),
+        7 => start_of(k, a, b, c, d, e),
+        _ => Call::Ask(question_of(k, a, b)),
+    }
+}
+
+// The words of calls, each with the kinds of its fields: an id, a number, bytes, places, a flag.
+fn parse_fields(line: &[u8], bytes: &mut [u8]) -> Call {
+    let forms = b"batch nbbpp message ib due b vote b add in remove i new innbb join inbp \
+        plan np stored n pending n propose fn next n schedule nb user ib state ";
+    let f = split(line);
+    let form = form_of(forms, field(line, f, 0));
+    let letters = part(forms, form.start, form.end);
+    if f.count != letters.len() + 1 {
+        return Call::Ask(Question::Bad);
+    }
+    let v = values_of(line, f, letters, bytes);
+    if v.good {
+        return call_of(
+            form.number,
+            v.numbers[0],
+            v.numbers[1],
+            v.numbers[2],
+            v.numbers[3],
+            v.numbers[4],
+        );
+    }
+    Call::Ask(Question::Bad)
+}
+
+// Without a replica, a question that needs one.
+fn unanswered(q: Question) -> Question {
+    match q {
+        Question::Schedule(_, _) => q,
+        Question::User(_, _) => q,
+        Question::Bad => q,
+        Question::Skipped => q,
+        _ => Question::NoEngine,
+    }
+}
+
+// Without a replica, a call that needs one.
+fn admitted(call: Call, started: bool) -> Call {
+    if started {
+        return call;
+    }
+    match call {
+        Call::New(_) => call,
+        Call::Join(_) => call,
+        Call::Ask(q) => Call::Ask(unanswered(q)),
+        _ => Call::Ask(Question::NoEngine),
     }
 }
 
 // What a line asks; an empty one, or one that begins with `#`, is skipped.
-pub(crate) fn parse(line: &[u8], first: &mut [u8], second: &mut [u8]) -> Call {
+pub(crate) fn parse(line: &[u8], bytes: &mut [u8; BYTES], started: bool) -> Call {
     if line.len() == 0 {
-        return Call::Skipped;
+        return Call::Ask(Question::Skipped);
     }
     if line[0] == b'#' {
-        return Call::Skipped;
+        return Call::Ask(Question::Skipped);
     }
-    if 140000 < line.len() {
-        return Call::Bad;
+    if MOST_LINE < line.len() {
+        return Call::Ask(Question::Bad);
     }
-    parse_fields(line, first, second)
+    admitted(parse_fields(line, bytes), started)
 }

@@ -1,9 +1,8 @@
 // votes.rs: signed votes by ascending voter, as the Rust's `BTreeMap` keeps them: a sorted array with a count.
 ghost use mathlib.Core.Path.{_≡_};
-ghost use mathlib.Core.List.{_∷_, _++_};
-ghost use Prim.Native.Nat.{_≤_, _<_};
-ghost use lib.ListN.{length, take, drop};
-ghost use Rattle.lists.specs.Lists.{lookup, below, insertWithin, mapFound};
+ghost use Prim.Native.Nat.{_≤_};
+ghost use lib.ListN.{length};
+ghost use Rattle.lists.specs.Lists.{lookup, below, hasKey, insertWithin, mapFound};
 ghost use Rattle.bincode.specs.Sizes.{base};
 ghost use Rattle.votes.specs.Votes.{signedOf};
 ghost use Rattle.signed_votes.specs.SignedVotes.{held, votesOf, noVotes, voterOf, numOf, voterIn, saidNum};
@@ -13,6 +12,12 @@ use votes::SignedVote;
 pub struct SignedVotes {
     pub count: usize,
     pub votes: [SignedVote; SignedVotes::LIMIT],
+}
+
+// Where a voter's vote belongs, and whether it has one there.
+struct Place {
+    at: usize,
+    taken: bool,
 }
 
 // A vote's number, or that the voter has none.
@@ -62,54 +67,50 @@ impl SignedVotes {
         VoteNum::Nothing
     }
 
-    // How many votes stand before the first whose voter is not below this one.
-    fn place(self, voter: u32) -> usize
-        ensures { λ r. ⌜ (r ≡ below voterIn voter (held self)) × (r ≤ length (held self)) ⌝ }
+    // How many votes stand before the first whose voter is not below this one, and whether that one is this voter's.
+    fn place(self, voter: u32) -> Place
+        ensures { λ r. ⌜ (r .at ≡ below voterIn voter (held self)) × (r .at ≤ length (held self)) × (r .taken ≡ hasKey voterIn voter (held self)) ⌝ }
     {
         let n = self.len();
         let mut i: usize = 0;
         while i < n {
             let x = self.votes[i];
             if voter <= x.voter {
-                return i;
+                return Place {
+                    at: i,
+                    taken: x.voter == voter,
+                };
             }
             i += 1;
         }
-        i
-    }
-
-    // The votes from a place on moved up by one, with a vote at that place; there is room.
-    fn shift(mut self, at: usize, n: usize, x: SignedVote) -> Self
-        requires { ⌜ (at ≤ n) × (n < base .nodes) ⌝ }
-        ensures { λ r. ⌜ held r ≡ take at (take n (self .votes)) ++ (x ∷ drop at (take n (self .votes))) ⌝ }
-    {
-        let mut j = n;
-        while at < j {
-            let k = j - 1;
-            let y = self.votes[k];
-            self.votes[j] = y;
-            j = k;
+        Place {
+            at: i,
+            taken: false,
         }
-        self.votes[at] = x;
-        self.count = n + 1;
-        self
     }
 
     // The votes with one put in: in place of its voter's, or where its voter belongs. A full array has no place for another voter.
+    // One exit, and the votes behind the place are moved up here: so the array is copied no further.
     pub fn put(mut self, x: SignedVote) -> Self
         ensures { λ r. ⌜ votesOf r ≡ insertWithin voterOf (base .nodes) (signedOf x) (votesOf self) ⌝ }
     {
         let n = self.len();
-        let at = self.place(x.voter);
-        if at < n {
-            let y = self.votes[at];
-            if y.voter == x.voter {
+        let p = self.place(x.voter);
+        let at = p.at;
+        if p.taken {
+            self.votes[at] = x;
+        } else {
+            if n < SignedVotes::LIMIT {
+                let mut j = n;
+                while at < j {
+                    let k = j - 1;
+                    let y = self.votes[k];
+                    self.votes[j] = y;
+                    j = k;
+                }
                 self.votes[at] = x;
-                return self;
+                self.count = n + 1;
             }
-        }
-        if n < SignedVotes::LIMIT {
-            return self.shift(at, n, x);
         }
         self
     }

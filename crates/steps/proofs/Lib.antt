@@ -1,2 +1,4 @@
 pub mod BatchLaws
 pub mod PageLaws
+pub mod VerdictLaws
+pub mod KeepLaws

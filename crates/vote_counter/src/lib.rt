@@ -5,10 +5,12 @@ ghost use lib.ListN.{length};
 ghost use Rattle.lists.specs.Lists.{found, mapFound};
 ghost use Rattle.bincode.specs.Sizes.{base};
 ghost use Rattle.bincode.specs.Outcome.{done};
+ghost use Rattle.pub_key_map.specs.PubKeyMap.{nodesOf};
+ghost use Rattle.network_info.specs.NetworkInfo.{keyOf};
 ghost use Rattle.change.specs.Change.{changeOf, sameChange};
 ghost use Rattle.votes.specs.Votes.{signedOf};
 ghost use Rattle.signed_votes.specs.SignedVotes.{votesOf};
-ghost use Rattle.vote_counter.specs.VoteCounter.{newHeld, counterOf, obsolete, validVote, addPending, addCommitted, signedWith, signVoteFor, pendingVotes, computeWinner, winnerAt};
+ghost use Rattle.vote_counter.specs.VoteCounter.{newHeld, counterOf, obsolete, isKey, addPending, addCommitted, signedWith, signVoteFor, pendingVotes, computeWinner, winnerAt};
 ghost use Rattle.vote_counter.specs.Answers.{addedOf, signedAnswer, SignRefusedKeeps, pendingAt, saidPending, NonePendingEmpty, choiceAt, saidWinner};
 use change::Change;
 use fault_log::FaultKind;
@@ -79,22 +81,25 @@ fn is_obsolete(votes: SignedVotes, x: SignedVote) -> bool
     false
 }
 
-// The change of the vote at a place.
-fn change_of(votes: SignedVotes, i: usize) -> Change
-    requires { ⌜ i < length (votesOf votes) ⌝ }
-    ensures { λ r. ⌜ changeOf r ≡ choiceAt (votesOf votes) i ⌝ }
+// Whether a vote is signed under its voter's key of a map.
+fn is_valid(map: PubKeyMap, x: SignedVote) -> bool
+    ensures { λ r. ⌜ r ≡ isKey (x .sig) (keyOf (nodesOf map) (x .voter)) ⌝ }
 {
-    let x = votes.votes[i];
-    let vote = x.vote;
-    vote.change
+    let NodeKey::Key(key) = network_info::node_key(map, x.voter) else {
+        return false;
+    };
+    if key == x.sig {
+        return true;
+    }
+    false
 }
 
-// Whether the vote at a place is for a change.
-fn agrees(votes: SignedVotes, j: usize, change: Change) -> bool
-    requires { ⌜ j < length (votesOf votes) ⌝ }
-    ensures { λ r. ⌜ r ≡ sameChange (choiceAt (votesOf votes) j) (changeOf change) ⌝ }
+// Whether a vote is for a change.
+fn agrees(x: SignedVote, change: Change) -> bool
+    ensures { λ r. ⌜ r ≡ sameChange (signedOf x .vote .change) (changeOf change) ⌝ }
 {
-    let other = change_of(votes, j);
+    let vote = x.vote;
+    let other = vote.change;
     other.same(change)
 }
 
@@ -112,77 +117,71 @@ impl VoteCounter {
         }
     }
 
-    // Whether a vote is signed under its voter's key of the current map.
-    fn is_valid(self, x: SignedVote) -> bool
-        ensures { λ r. ⌜ r ≡ validVote (counterOf self) (signedOf x) ⌝ }
-    {
-        let map = self.pub_keys;
-        let NodeKey::Key(key) = network_info::node_key(map, x.voter) else {
-            return false;
-        };
-        if key == x.sig {
-            return true;
-        }
-        false
-    }
-
-    // A vote that was received.
+    // A vote that was received. The counter is put together at one exit: so the votes that stay are not copied.
     pub fn add_pending_vote(mut self, x: SignedVote) -> VoteAdded
         ensures { λ r. ⌜ addedOf r ≡ addPending base (counterOf self) (signedOf x) ⌝ }
     {
         let vote = x.vote;
-        if vote.era != self.era {
-            return VoteAdded {
-                counter: self,
-                outcome: VoteOutcome::Nothing,
-            };
+        let map = self.pub_keys;
+        let old = self.pending;
+        let mut outcome = VoteOutcome::Nothing;
+        if vote.era == self.era {
+            if is_obsolete(old, x) {
+                outcome = VoteOutcome::Nothing;
+            } else {
+                if is_valid(map, x) {
+                    self.pending = old.put(x);
+                    outcome = VoteOutcome::Stored;
+                } else {
+                    outcome = VoteOutcome::Faulty(FaultKind::InvalidVoteSignature);
+                }
+            }
         }
         let pending = self.pending;
-        if is_obsolete(pending, x) {
-            return VoteAdded {
-                counter: self,
-                outcome: VoteOutcome::Nothing,
-            };
-        }
-        if self.is_valid(x) {
-            let next = pending.put(x);
-            self.pending = next;
-            return VoteAdded {
-                counter: self,
-                outcome: VoteOutcome::Stored,
-            };
-        }
+        let committed = self.committed;
         VoteAdded {
-            counter: self,
-            outcome: VoteOutcome::Faulty(FaultKind::InvalidVoteSignature),
+            counter: VoteCounter {
+                our_id: self.our_id,
+                secret_key: self.secret_key,
+                pub_keys: map,
+                era: self.era,
+                pending,
+                committed,
+            },
+            outcome,
         }
     }
 
-    // A vote of a batch: number, then era, then signature.
+    // A vote of a batch: number, then era, then signature. The counter is put together at one exit: so the votes that stay are not copied.
     pub fn add_committed_vote(mut self, x: SignedVote) -> VoteAdded
         ensures { λ r. ⌜ addedOf r ≡ addCommitted base (counterOf self) (signedOf x) ⌝ }
     {
         let vote = x.vote;
-        let committed = self.committed;
-        if is_obsolete(committed, x) {
-            return VoteAdded {
-                counter: self,
-                outcome: VoteOutcome::Nothing,
-            };
-        }
-        if vote.era == self.era {
-            if self.is_valid(x) {
-                let next = committed.put(x);
-                self.committed = next;
-                return VoteAdded {
-                    counter: self,
-                    outcome: VoteOutcome::Stored,
-                };
+        let map = self.pub_keys;
+        let old = self.committed;
+        let mut outcome = VoteOutcome::Faulty(FaultKind::InvalidCommittedVote);
+        if is_obsolete(old, x) {
+            outcome = VoteOutcome::Nothing;
+        } else {
+            if vote.era == self.era {
+                if is_valid(map, x) {
+                    self.committed = old.put(x);
+                    outcome = VoteOutcome::Stored;
+                }
             }
         }
+        let pending = self.pending;
+        let committed = self.committed;
         VoteAdded {
-            counter: self,
-            outcome: VoteOutcome::Faulty(FaultKind::InvalidCommittedVote),
+            counter: VoteCounter {
+                our_id: self.our_id,
+                secret_key: self.secret_key,
+                pub_keys: map,
+                era: self.era,
+                pending,
+                committed,
+            },
+            outcome,
         }
     }
 
@@ -270,11 +269,14 @@ impl VoteCounter {
         let mut won = Winner::Nobody;
         let mut i: usize = 0;
         'voters: while i < n {
-            let change = change_of(committed, i);
+            let x = committed.votes[i];
+            let vote = x.vote;
+            let change = vote.change;
             let mut count: usize = 0;
             let mut j: usize = 0;
             while j <= i {
-                if agrees(committed, j, change) {
+                let other = committed.votes[j];
+                if agrees(other, change) {
                     count += 1;
                     if f < count {
                         won = Winner::Voter(i);

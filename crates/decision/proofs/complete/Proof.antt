@@ -1,21 +1,14 @@
 use mathlib.Core.Bool.{true≢false}
 use mathlib.Core.Path.{refl, ap, _∙_}
-use Rattle.lists.specs.Lists.{found}
-use Rattle.pub_key_map.specs.PubKeyMap.{nodesOf}
+use Rattle.lists.specs.Lists.{found, nothing}
 use Rattle.change.specs.Change.{complete}
-use Rattle.dynamic_honey_badger.specs.State.{stateOf, withKeyGen, newEra}
-use Rattle.lists.specs.Lists.{Found}
-use Rattle.key_gen_state.specs.KeyGenState.{KeyGenStateOf, stateOf as stateOfKeyGen}
-use Rattle.decision.proofs.DecisionLaws.{same-decision}
+use Rattle.decision.proofs.DecisionLaws.{same-decision, era-begun}
 use borrow.Author.Needs.{needs}
 use Rattle.decision.proofs.complete.Statement.{statement}
 use Rattle.decision.proofs.complete.Tie as tie
 
-empty-requires : tie.Need-empty-requires
-empty-requires c κs = search needs
-
-restart-requires : tie.Need-restart-requires
-restart-requires c κs = search needs
+new-requires : tie.Need-new-requires
+new-requires c κs = search needs
 
 node-change-requires : tie.Need-node-change-requires
 node-change-requires c κs = search needs
@@ -28,8 +21,10 @@ generate-requires c κs = search needs
 
 returns : tie.Need-returns
 returns c =
-    let a = c .before .before .before .before .before .before .args in (
-      λ counts. same-decision (c .before .before .before .restart .ensures ∙ ap (λ (g : Found KeyGenStateOf). newEra (a .era) (nodesOf (a .key-gen .«pub_keys»)) (withKeyGen (stateOf (a .state)) g)) (ap stateOfKeyGen (c .before .before .before .before .empty .ensures)))
+    let a = c .before .before .before .before .before .before .args in
+    let v = c .before .before .before .new .result in (
+      λ st. same-decision
+          (era-begun (a .era) (a .counter) v (a .state .«key_gen» .«pub_keys») (a .params) nothing st (c .before .before .before .new .ensures))
           (c .before .complete .ensures ∙ ap complete (c .before .before .node-change .ensures))
           refl
           (ap found (c .generate .ensures)),
@@ -40,8 +35,7 @@ pub complete-spec : {M : Type 1} → statement M
 complete-spec =
     tie.close
     (tie.spec
-    empty-requires
-    restart-requires
+    new-requires
     node-change-requires
     complete-requires
     generate-requires

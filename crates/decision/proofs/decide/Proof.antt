@@ -1,21 +1,14 @@
 use mathlib.Core.Bool.{true, false}
-use mathlib.Core.Path.{_≡_, sym, ap, _∙_}
+use mathlib.Core.Path.{_≡_, refl, sym, ap, _∙_}
 use Rattle.lists.specs.Lists.{Found}
 use Rattle.bincode.specs.Sizes.{base}
-use Rattle.key_gen_state.specs.KeyGenState.{KeyGenStateOf, readyState}
-use Rattle.dynamic_honey_badger.specs.State.{stateOf}
-use Rattle.decision.specs.Decision.{completedBy}
-use Rattle.decision.proofs.DecisionLaws.{ready-runs, decide-ready, decide-elects}
+use Rattle.change.specs.Change.{ChangeOf, stateOf as progressOf}
+use Rattle.key_gen_state.specs.KeyGenState as running
+use Rattle.decision.specs.Decision.{partsOf, electedOf, completedBy, electedBy}
+use Rattle.decision.proofs.DecisionLaws.{same-decision, ready-runs, elected-found, elected-none, by-ready, by-elects}
 use borrow.Author.Needs.{needs}
 use Rattle.decision.proofs.decide.Statement.{statement}
 use Rattle.decision.proofs.decide.Tie as tie
-
--- what the test says of key generation
-ready : (c : tie.Then1) → readyState (stateOf (c .before .before .before .args .state) .key-gen) ≡ true
-ready c = let t : c .before .is-ready .result ≡ true = c .if1 .taken in sym (c .before .is-ready .ensures) ∙ t
-
-not-ready : (c : tie.Else1) → readyState (stateOf (c .before .before .before .args .state) .key-gen) ≡ false
-not-ready c = let t : c .before .is-ready .result ≡ false = c .if1 .left in sym (c .before .is-ready .ensures) ∙ t
 
 is-ready-requires : tie.Need-is-ready-requires
 is-ready-requires c κs = search needs
@@ -25,21 +18,46 @@ complete-requires c κs = search needs
 
 returns : tie.Need-returns
 returns c =
-    let a = c .before .before .before .before .before .args in (
-      c .complete .ensures .0 (a .state .«key_gen_state» .counts .counts)
-          ∙ ap (λ (g : Found KeyGenStateOf). completedBy (a .era) (stateOf (a .state)) g) (sym (ready-runs (a .state .«key_gen_state») (ready (c .before .before))))
-          ∙ sym (decide-ready base (a .era) (stateOf (a .state)) (ready (c .before .before))),
+    let a = c .before .before .before .args in
+    let ready : running.readyState (running.stateOf (a .state)) ≡ true = sym (c .before .before .is-ready .ensures) ∙ c .before .if1 .taken in (
+      λ st. let s = partsOf (a .params) (a .counter) (a .state) st in c .complete .ensures .0 st ∙ ap (λ (g : Found running.KeyGenStateOf). completedBy (a .era) s g) (sym (ready-runs (a .state) ready)) ∙ sym (by-ready base (a .era) s (electedOf (a .e)) ready),
       c .complete .ensures .1,
     )
 
-by-winner-requires : tie.Need-by-winner-requires
-by-winner-requires c κs = search needs
+change-wins-requires : tie.Need-change-wins-requires
+change-wins-requires c κs = search needs
 
 returns-2 : tie.Need-returns-2
 returns-2 c =
-    let a = c .before .before .before .before .args in
-    (c .by-winner .ensures .0 ∙ sym (decide-elects base (a .era) (stateOf (a .state)) (not-ready (c .before))), c .by-winner .ensures .1)
+    let a = c .before .before .before .before .before .args in
+    let unready : running.readyState (running.stateOf (a .state)) ≡ false = sym (c .before .before .before .before .is-ready .ensures) ∙ c .before .before .before .if1 .left in (
+      λ st. let s = partsOf (a .params) (a .counter) (a .state) st in c .change-wins .ensures .0 st ∙ ap (λ (w : Found ChangeOf). electedBy base (a .era) s w) (sym (elected-found (a .e) (c .before .before .if2 .taken))) ∙ sym (by-elects base (a .era) s (electedOf (a .e)) unready),
+      c .change-wins .ensures .1,
+    )
+
+none-requires : tie.Need-none-requires
+none-requires c κs = search needs
+
+empty-requires : tie.Need-empty-requires
+empty-requires c κs = search needs
+
+returns-3 : tie.Need-returns-3
+returns-3 c =
+    let a = c .before .before .before .before .before .args in
+    let unready : running.readyState (running.stateOf (a .state)) ≡ false = sym (c .before .before .before .before .is-ready .ensures) ∙ c .before .before .before .if1 .left in (
+      λ st. let s = partsOf (a .params) (a .counter) (a .state) st in same-decision refl (ap progressOf (c .before .none .ensures)) refl refl ∙ ap (λ (w : Found ChangeOf). electedBy base (a .era) s w) (sym (elected-none (a .e) (c .before .before .if2 .left))) ∙ sym (by-elects base (a .era) s (electedOf (a .e)) unready),
+      λ e. c .empty .ensures,
+    )
 
 pub decide-spec : {M : Type 1} → statement M
 decide-spec =
-    tie.close (tie.spec is-ready-requires complete-requires returns by-winner-requires returns-2)
+    tie.close
+    (tie.spec
+    is-ready-requires
+    complete-requires
+    returns
+    change-wins-requires
+    returns-2
+    none-requires
+    empty-requires
+    returns-3)

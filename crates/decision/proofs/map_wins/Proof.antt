@@ -5,12 +5,10 @@ use Rattle.bincode.specs.Sizes.{base}
 use Rattle.pub_key_map.specs.PubKeyMap.{nodesOf}
 use Rattle.change.specs.Change.{inProgress}
 use Rattle.due.specs.declared.DueKind.the-variants.{Part}
-use Rattle.dynamic_honey_badger.specs.State.{StateOf, stateOf, keyGenFor}
-use Rattle.dynamic_honey_badger.proofs.StateLaws.{key-gen-begun}
-use Rattle.decision.specs.Decision.{decidedOf}
-use Rattle.decision.proofs.DecisionLaws.{same-decision, map-again, map-new}
-use borrow.Author.Needs.{needs}
 use Rattle.decision.specs.declared.Decision.{Decision}
+use Rattle.decision.specs.Decision.{partsOf, decidedOf}
+use Rattle.decision.proofs.DecisionLaws.{same-decision, map-begun, map-again, map-new}
+use borrow.Author.Needs.{needs}
 use Rattle.decision.proofs.map_wins.Statement.{statement}
 use Rattle.decision.proofs.map_wins.Tie as tie
 
@@ -28,21 +26,21 @@ decided-requires c κs = search needs
 
 returns : tie.Need-returns
 returns c =
-    let a = c .before .before .before .before .before .before .args in (
-      ap (decidedOf (a .era)) (c .decided .ensures)
-          ∙ same-decision refl (c .before .before .before .before .in-progress .ensures ∙ ap inProgress (c .before .before .before .before .before .node-change .ensures)) refl refl
-          ∙ sym (map-again base (a .era) (stateOf (a .state)) (nodesOf (a .map)) (sym (c .before .before .is-candidate .ensures) ∙ c .before .if1 .taken)),
+    let a = c .before .before .before .before .before .args in (
+      λ st. ap (decidedOf (a .era) st) (c .decided .ensures)
+          ∙ same-decision refl (c .before .before .before .in-progress .ensures ∙ ap inProgress (c .before .before .before .before .node-change .ensures)) refl refl
+          ∙ sym (map-again base (a .era) (partsOf (a .params) (a .counter) (a .state) st) (nodesOf (a .map)) (sym (c .before .before .is-candidate .ensures) ∙ c .before .if1 .taken)),
       λ e. ap (λ (d : Decision). d .recipe) (c .decided .ensures),
     )
 
 is-member-requires : tie.Need-is-member-requires
 is-member-requires c κs = search needs
 
-restart-requires : tie.Need-restart-requires
-restart-requires c κs = search needs
-
 new-requires : tie.Need-new-requires
 new-requires c κs = search needs
+
+renew-requires : tie.Need-renew-requires
+renew-requires c κs = search needs
 
 new-requires-2 : tie.Need-new-requires-2
 new-requires-2 c κs = search needs
@@ -52,14 +50,14 @@ decided-requires-2 c κs = search needs
 
 returns-2 : tie.Need-returns-2
 returns-2 c =
-    let a = c .before .before .before .before .before .before .before .before .before .before .before .before .before .args in
-    let begun = key-gen-begun (c .before .before .before .before .restart .result) (a .map) _ (c .before .new2 .result) (c .before .before .new .ensures) (c .before .new2 .ensures) in (
-      ap (decidedOf (a .era)) (c .decided2 .ensures)
-          ∙ same-decision (begun ∙ ap (λ (s : StateOf). keyGenFor base (nodesOf (a .map)) s) (c .before .before .before .before .restart .ensures))
-          (c .before .before .before .before .before .before .before .before .before .before .before .in-progress .ensures ∙ ap inProgress (c .before .before .before .before .before .before .before .before .before .before .before .before .node-change .ensures))
+    let a = c .before .before .before .before .before .before .before .before .before .before .before .args in (
+      λ st. ap (decidedOf (a .era) st) (c .decided2 .ensures)
+          ∙ same-decision
+          (map-begun (a .era) (a .counter) (c .before .before .before .before .new .result) (a .map) (a .params) (a .state) (c .before .new2 .result) (c .before .before .renew .result) st (c .before .before .before .before .new .ensures) (c .before .before .renew .ensures) (c .before .new2 .ensures))
+          (c .before .before .before .before .before .before .before .before .before .in-progress .ensures ∙ ap inProgress (c .before .before .before .before .before .before .before .before .before .before .node-change .ensures))
           (ap (λ (b : Bool). cond b (record { kind = Part; era = a .era } ∷ []) []) (c .before .before .before .before .before .is-member .ensures))
           refl
-          ∙ sym (map-new base (a .era) (stateOf (a .state)) (nodesOf (a .map)) (sym (c .before .before .before .before .before .before .before .before .before .is-candidate .ensures) ∙ c .before .before .before .before .before .before .before .before .if1 .left)),
+          ∙ sym (map-new base (a .era) (partsOf (a .params) (a .counter) (a .state) st) (nodesOf (a .map)) (sym (c .before .before .before .before .before .before .before .before .is-candidate .ensures) ∙ c .before .before .before .before .before .before .before .if1 .left)),
       λ e. ap (λ (d : Decision). d .recipe) (c .decided2 .ensures),
     )
 
@@ -73,8 +71,8 @@ map-wins-spec =
     decided-requires
     returns
     is-member-requires
-    restart-requires
     new-requires
+    renew-requires
     new-requires-2
     decided-requires-2
     returns-2)

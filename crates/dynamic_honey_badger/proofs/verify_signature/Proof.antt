@@ -1,27 +1,21 @@
 use borrow.Author.Needs.{needs}
-use mathlib.Core.Path.{sym, _∙_}
+use mathlib.Core.Path.{ap, _∙_}
+use mathlib.Core.List.{List}
+use Rattle.lists.specs.Lists.{Found}
+use Rattle.pub_key_map.specs.declared.Node.{Node}
+use Rattle.pub_key_map.specs.PubKeyMap.{nodesOf}
 use Rattle.dynamic_honey_badger.specs.State.{validUnder}
+use Rattle.dynamic_honey_badger.proofs.StateLaws.{candidate-by}
 use Rattle.dynamic_honey_badger.proofs.verify_signature.Statement.{statement}
 use Rattle.dynamic_honey_badger.proofs.verify_signature.Tie as tie
 
-is-key-requires : tie.Need-is-key-requires
-is-key-requires c κs = search needs
+verify-under-requires : tie.Need-verify-under-requires
+verify-under-requires c κs = search needs
 
 returns : tie.Need-returns
-unfolding validUnder
-returns c = rw (sym (c .before .is-key .ensures) ∙ c .if1 .taken)
-
-is-key-requires-2 : tie.Need-is-key-requires-2
-is-key-requires-2 c κs = search needs
-
-returns-2 : tie.Need-returns-2
-unfolding validUnder
-returns-2 c = rw (sym (c .before .before .before .before .before .is-key .ensures) ∙ c .before .before .before .before .if1 .left, c .before .before .before .if2 .taken) (c .is-key2 .ensures)
-
-returns-3 : tie.Need-returns-3
-unfolding validUnder
-returns-3 c = rw (sym (c .before .before .is-key .ensures) ∙ c .before .if1 .left, c .if2 .left)
+returns c =
+    let a = c .before .before .before .args in
+    c .verify-under .ensures ∙ ap (λ (ns : Found (List Node)). validUnder (nodesOf (a .pub-keys)) ns (a .id) (a .sig)) (candidate-by (a .state))
 
 pub verify-signature-spec : {M : Type 1} → statement M
-verify-signature-spec =
-    tie.close (tie.spec is-key-requires returns is-key-requires-2 returns-2 returns-3)
+verify-signature-spec = tie.close (tie.spec verify-under-requires returns)

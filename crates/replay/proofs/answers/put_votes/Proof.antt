@@ -7,10 +7,10 @@ use Rattle.replay.proofs.answers.put_votes.Statement.{statement}
 use Rattle.replay.proofs.answers.put_votes.Tie as tie
 
 abbrev Inv-loop : tie.InvT-loop
-Inv-loop out₀ at vs n m₀ i₀ out m i = (i ≤ n) × (n ≤ base .nodes) × (length out ≡ length out₀)
+Inv-loop out₀ at vs n m₀ i₀ t10 out m i = (n ≤ base .nodes) × (length out ≡ length out₀)
 
 abbrev μ-loop : tie.MeasureT-loop
-μ-loop out₀ at vs n m₀ i₀ out m i = n - i
+μ-loop out₀ at vs n m₀ i₀ t10 out m i = n - i
 
 len-requires : tie.Need-len-requires Inv-loop μ-loop
 len-requires c κs = search needs
@@ -36,8 +36,11 @@ mul-x c = search needs
 element-copy-out-x : tie.Need-element-copy-out-x Inv-loop μ-loop
 element-copy-out-x c = search needs
 
-put-comma-requires : tie.Need-put-comma-requires Inv-loop μ-loop
-put-comma-requires c κs = search needs
+slice-aggregate-put-between : tie.Need-slice-aggregate-put-between Inv-loop μ-loop
+slice-aggregate-put-between c = search needs
+
+put-between-requires : tie.Need-put-between-requires Inv-loop μ-loop
+put-between-requires c κs = search needs
 
 put-vote-requires : tie.Need-put-vote-requires Inv-loop μ-loop
 put-vote-requires c κs = search needs
@@ -71,7 +74,8 @@ put-votes-spec =
     loop-holds
     mul-x
     element-copy-out-x
-    put-comma-requires
+    slice-aggregate-put-between
+    put-between-requires
     put-vote-requires
     add-i
     loop-less

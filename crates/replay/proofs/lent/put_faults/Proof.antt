@@ -6,10 +6,16 @@ use Rattle.replay.proofs.lent.put_faults.Statement.{statement}
 use Rattle.replay.proofs.lent.put_faults.Tie as tie
 
 abbrev Inv-loop : tie.InvT-loop
-Inv-loop out₀ at ids kinds n m₀ i₀ out m i = (i ≤ n) × (length out ≡ length out₀)
+Inv-loop out₀ at ids kinds n end m₀ i₀ t11 out m i = (end ≤ length ids) × (end ≤ length kinds) × (length out ≡ length out₀)
 
 abbrev μ-loop : tie.MeasureT-loop
-μ-loop out₀ at ids kinds n m₀ i₀ out m i = n - i
+μ-loop out₀ at ids kinds n end m₀ i₀ t11 out m i = end - i
+
+smaller-requires : tie.Need-smaller-requires Inv-loop μ-loop
+smaller-requires c κs = search needs
+
+smaller-requires-2 : tie.Need-smaller-requires-2 Inv-loop μ-loop
+smaller-requires-2 c κs = search needs
 
 slice-aggregate-put : tie.Need-slice-aggregate-put Inv-loop μ-loop
 slice-aggregate-put c = search needs
@@ -32,11 +38,23 @@ put-requires-2 c κs = search needs
 loop-holds : tie.Need-loop-holds Inv-loop μ-loop
 loop-holds c = search needs
 
-put-comma-requires : tie.Need-put-comma-requires Inv-loop μ-loop
-put-comma-requires c κs = search needs
+slice-aggregate-put-between : tie.Need-slice-aggregate-put-between Inv-loop μ-loop
+slice-aggregate-put-between c = search needs
 
-put-fault-at-requires : tie.Need-put-fault-at-requires Inv-loop μ-loop
-put-fault-at-requires c κs = search needs
+put-between-requires : tie.Need-put-between-requires Inv-loop μ-loop
+put-between-requires c κs = search needs
+
+mul-put-fault : tie.Need-mul-put-fault Inv-loop μ-loop
+mul-put-fault c = search needs
+
+shared-slice-read-put-fault : tie.Need-shared-slice-read-put-fault Inv-loop μ-loop
+shared-slice-read-put-fault c = search needs
+
+shared-slice-read-put-fault-2 : tie.Need-shared-slice-read-put-fault-2 Inv-loop μ-loop
+shared-slice-read-put-fault-2 c = search needs
+
+put-fault-requires : tie.Need-put-fault-requires Inv-loop μ-loop
+put-fault-requires c κs = search needs
 
 add-i : tie.Need-add-i Inv-loop μ-loop
 add-i c = search needs
@@ -59,6 +77,8 @@ put-faults-spec =
     (tie.spec
     Inv-loop
     μ-loop
+    smaller-requires
+    smaller-requires-2
     slice-aggregate-put
     put-requires
     same-length
@@ -66,8 +86,12 @@ put-faults-spec =
     slice-aggregate-put-2
     put-requires-2
     loop-holds
-    put-comma-requires
-    put-fault-at-requires
+    slice-aggregate-put-between
+    put-between-requires
+    mul-put-fault
+    shared-slice-read-put-fault
+    shared-slice-read-put-fault-2
+    put-fault-requires
     add-i
     loop-less
     loop-again

@@ -6,10 +6,10 @@ use Rattle.replay.proofs.lines.next_line.Statement.{statement}
 use Rattle.replay.proofs.lines.next_line.Tie as tie
 
 abbrev Inv-loop : tie.InvT-loop
-Inv-loop line₀ chunk₀ t₀ turns₀ line chunk t turns = (t .held ≤ length line) × (t .at ≤ t .filled) × (t .filled ≤ length chunk) × (length line ≡ length line₀) × (length chunk ≡ length chunk₀)
+Inv-loop input₀ t₀ turns₀ input t turns = (t .at ≤ t .end) × (t .end ≤ t .filled) × (t .filled ≤ length input) × (length input ≡ length input₀)
 
 abbrev μ-loop : tie.MeasureT-loop
-μ-loop line₀ chunk₀ t₀ turns₀ line chunk t turns = turns
+μ-loop input₀ t₀ turns₀ input t turns = turns
 
 loop-holds : tie.Need-loop-holds Inv-loop μ-loop
 loop-holds c = search needs
@@ -19,9 +19,6 @@ take-some-requires c κs = search needs
 
 same-length : tie.Need-same-length Inv-loop μ-loop
 same-length c = search needs
-
-same-length-2 : tie.Need-same-length-2 Inv-loop μ-loop
-same-length-2 c = search needs
 
 returns : tie.Need-returns Inv-loop μ-loop
 returns c = search needs
@@ -35,11 +32,8 @@ loop-less c = search needs
 loop-again : tie.Need-loop-again Inv-loop μ-loop
 loop-again c = search needs
 
-same-length-3 : tie.Need-same-length-3 Inv-loop μ-loop
-same-length-3 c = search needs
-
-same-length-4 : tie.Need-same-length-4 Inv-loop μ-loop
-same-length-4 c = search needs
+same-length-2 : tie.Need-same-length-2 Inv-loop μ-loop
+same-length-2 c = search needs
 
 returns-2 : tie.Need-returns-2 Inv-loop μ-loop
 returns-2 c = search needs
@@ -53,11 +47,9 @@ next-line-spec =
     loop-holds
     take-some-requires
     same-length
-    same-length-2
     returns
     sub-turns
     loop-less
     loop-again
-    same-length-3
-    same-length-4
+    same-length-2
     returns-2)

@@ -1,17 +1,24 @@
 use borrow.Author.Needs.{needs}
 use Prim.Native.Nat.{_≤_, _-_}
 use mathlib.Core.Path.{_≡_}
-use lib.ListN.{length, length-set}
-use mathlib.Core.Logic.{⊎-elim}
-use native.Mathlib.Omega.{arith}
+use lib.ListN.{length}
 use Rattle.replay.proofs.text.put.Statement.{statement}
 use Rattle.replay.proofs.text.put.Tie as tie
 
 abbrev Inv-loop : tie.InvT-loop
-Inv-loop out₀ at s m₀ i₀ out m i = (i ≤ length s) × (length out ≡ length out₀)
+Inv-loop out₀ at s n i₀ out i = (i ≤ n) × (length out ≡ length out₀)
 
 abbrev μ-loop : tie.MeasureT-loop
-μ-loop out₀ at s m₀ i₀ out m i = length s - i
+μ-loop out₀ at s n i₀ out i = n - i
+
+returns : tie.Need-returns Inv-loop μ-loop
+returns c = search needs
+
+sub-smaller : tie.Need-sub-smaller Inv-loop μ-loop
+sub-smaller c = search needs
+
+smaller-requires : tie.Need-smaller-requires Inv-loop μ-loop
+smaller-requires c κs = search needs
 
 loop-holds : tie.Need-loop-holds Inv-loop μ-loop
 loop-holds c = search needs
@@ -19,11 +26,11 @@ loop-holds c = search needs
 shared-slice-read-out : tie.Need-shared-slice-read-out Inv-loop μ-loop
 shared-slice-read-out c = search needs
 
+add-out : tie.Need-add-out Inv-loop μ-loop
+add-out c = search needs
+
 slice-write-out : tie.Need-slice-write-out Inv-loop μ-loop
 slice-write-out c = search needs
-
-add-m : tie.Need-add-m Inv-loop μ-loop
-add-m c = search needs
 
 add-i : tie.Need-add-i Inv-loop μ-loop
 add-i c = search needs
@@ -32,18 +39,16 @@ loop-less : tie.Need-loop-less Inv-loop μ-loop
 loop-less c = search needs
 
 loop-again : tie.Need-loop-again Inv-loop μ-loop
-loop-again c =
-    let v = c .before .before .loop .inv in
-    ⊎-elim
-    (λ w. rw (w .2) (omega arith, simp length-set (v .1)))
-    (λ w. rw (w .1) (omega arith, v .1))
-    (c .if1 .came)
+loop-again c = search needs
+
+add-result : tie.Need-add-result Inv-loop μ-loop
+add-result c = search needs
 
 same-length : tie.Need-same-length Inv-loop μ-loop
 same-length c = search needs
 
-returns : tie.Need-returns Inv-loop μ-loop
-returns c = search needs
+returns-2 : tie.Need-returns-2 Inv-loop μ-loop
+returns-2 c = search needs
 
 pub put-spec : {M : Type 1} → statement M
 put-spec =
@@ -51,12 +56,16 @@ put-spec =
     (tie.spec
     Inv-loop
     μ-loop
+    returns
+    sub-smaller
+    smaller-requires
     loop-holds
     shared-slice-read-out
+    add-out
     slice-write-out
-    add-m
     add-i
     loop-less
     loop-again
+    add-result
     same-length
-    returns)
+    returns-2)

@@ -1,0 +1,50 @@
+use borrow.Author.Needs.{needs}
+use Prim.Native.Nat.{_≤_, _-_}
+use lib.ListN.{length}
+use Rattle.replay.proofs.fields.skip_blocks.Statement.{statement}
+use Rattle.replay.proofs.fields.skip_blocks.Tie as tie
+
+abbrev Inv-loop : tie.InvT-loop
+Inv-loop s from b i₀ i = (from ≤ i) × (i ≤ length s)
+
+abbrev μ-loop : tie.MeasureT-loop
+μ-loop s from b i₀ i = length s - i
+
+loop-holds : tie.Need-loop-holds Inv-loop μ-loop
+loop-holds c = search needs
+
+sub-loop : tie.Need-sub-loop Inv-loop μ-loop
+sub-loop c = search needs
+
+has-in-block-requires : tie.Need-has-in-block-requires Inv-loop μ-loop
+has-in-block-requires c κs = search needs
+
+returns : tie.Need-returns Inv-loop μ-loop
+returns c = search needs
+
+add-i : tie.Need-add-i Inv-loop μ-loop
+add-i c = search needs
+
+loop-less : tie.Need-loop-less Inv-loop μ-loop
+loop-less c = search needs
+
+loop-again : tie.Need-loop-again Inv-loop μ-loop
+loop-again c = search needs
+
+returns-2 : tie.Need-returns-2 Inv-loop μ-loop
+returns-2 c = search needs
+
+pub skip-blocks-spec : {M : Type 1} → statement M
+skip-blocks-spec =
+    tie.close
+    (tie.spec
+    Inv-loop
+    μ-loop
+    loop-holds
+    sub-loop
+    has-in-block-requires
+    returns
+    add-i
+    loop-less
+    loop-again
+    returns-2)

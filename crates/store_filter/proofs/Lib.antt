@@ -1,0 +1,2 @@
+pub mod FilterLaws
+pub mod BatchLaws
