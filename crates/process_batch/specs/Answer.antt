@@ -1,10 +1,10 @@
 -- A batch call's answer as code gives it: the parts of the state, and a report with the numbers of faults and due items, which stand in the lent lists.
 use Prim.Native.Nat.{ℕ, _+_, _^_, _≤_, _<_}
 use mathlib.Core.Path.{_≡_}
-use mathlib.Core.List.{List, [], _∷_}
-use mathlib.Core.Bool.{Bool, true, false, cond}
+use mathlib.Core.List.{List, [], _∷_, _++_, map}
+use mathlib.Core.Bool.{Bool, false, cond}
 use lib.Dec.{ltb}
-use lib.ListN.{length}
+use lib.ListN.{length, take}
 use Rattle.lists.specs.Lists.{Found}
 use Rattle.util.specs.MaxFaulty.{maxFaulty}
 use Rattle.bincode.specs.Outcome.{Outcome, done, refused}
@@ -25,6 +25,8 @@ use Rattle.message_store.specs.MessageStore.{fromEra}
 use Rattle.internal_contrib.specs.declared.Contrib.{Contrib}
 use Rattle.dynamic_honey_badger.specs.declared.DynamicHoneyBadger.{DynamicHoneyBadger}
 use Rattle.dynamic_honey_badger.specs.State.{stateOf}
+use Rattle.filled.specs.Numbers.{dueIndex, DueIn}
+use Rattle.steps.specs.Held.{ackItem}
 use Rattle.commit.specs.declared.Committed.{Committed}
 use Rattle.commit.specs.Tally.{entriesOf, anyFresh}
 use Rattle.store_filter.specs.Filter.{entriesIn, withoutEntries}
@@ -81,6 +83,12 @@ dueCount z acks part = cond part (cond (ltb acks (z .due)) (acks + 1) acks) acks
 -- behind the acks a part, where one item more is due
 abbrev pub partBehind : ℕ → ℕ → ℕ → List DueItem
 partBehind acks due era = cond (ltb acks due) (record { kind = Part; era = era } ∷ []) []
+
+-- the three lent lists at the end, for every list of acks of this era whose indices `from` begins with: these, and the part behind them
+abbrev pub DueWritten : ℕ → ℕ → ℕ → ℕ → List ℕ → List ℕ → List ℕ → List ℕ → List ℕ → List ℕ → List ℕ → Type 0
+DueWritten acks due era next from kinds kinds′ indices indices′ eras eras′ =
+    (ds : List DueItem) → length ds ≡ acks → take acks from ≡ map dueIndex ds → ds ≡ map (ackItem era) (map dueIndex ds)
+    → DueIn (ds ++ partBehind acks due next) kinds kinds′ indices indices′ eras eras′
 
 -- what a decision comes to, with the report
 abbrev pub settledBy : Decision → ℕ → ℕ → Committed → Settled

@@ -1,5 +1,5 @@
 -- 01: the lent lists of a batch call, one list of numbers a field: faults as ids and kinds, due items as kinds, proposers' indices and eras, each filled from the first place on.
-use Prim.Native.Nat.{ℕ}
+use Prim.Native.Nat.{ℕ, _≤_}
 use mathlib.Core.List.{List, []}
 use lib.ListN.{length}
 use Rattle.filled.specs.Filled.{shorter}
@@ -49,8 +49,9 @@ Filled a l l′ =
     FaultsIn (faultsIn a) (l .fault-ids) (l′ .fault-ids) (l .fault-kinds) (l′ .fault-kinds)
     × DueIn (dueIn a) (l .due-kinds) (l′ .due-kinds) (l .due-indices) (l′ .due-indices) (l .due-eras) (l′ .due-eras)
 
--- a batch call, whole: state and report, the very state beside a refusal, and what each lent list holds at the end
+-- a batch call, whole: state and report, the very state beside a refusal, what each lent list holds at the end, and that faults are no more
+-- than their places
 abbrev pub BatchDone : DynamicHoneyBadger → ℕ → List ℕ → List ℕ → Lists → Processed → Lists → Type 0
 BatchDone s inner bytes verdicts l r l′ =
     let x = processed base (stateOf s) (lentCall inner bytes verdicts l) in
-    ProcessedAs r x × BatchRefusedKeeps r s × NoRecipeEmpty (r .«has_recipe») (r .recipe) × Filled (x .answer) l l′
+    ProcessedAs r x × BatchRefusedKeeps r s × NoRecipeEmpty (r .«has_recipe») (r .recipe) × Filled (x .answer) l l′ × (r .faults ≤ base .faults)

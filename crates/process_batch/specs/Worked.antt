@@ -1,5 +1,5 @@
 -- A batch call cut in three: rows 1 to 6 with steps 2 to 5, steps 6 to 8 with row 7, and the store; each tied to the batch step's own definition.
-use Prim.Native.Nat.{ℕ, _+_, _^_, _≤_, _<_}
+use Prim.Native.Nat.{ℕ, _≤_}
 use mathlib.Core.Path.{_≡_}
 use mathlib.Core.List.{List, [], _++_, map}
 use mathlib.Core.Bool.{Bool, cond}

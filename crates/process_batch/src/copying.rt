@@ -1,12 +1,8 @@
 // What a batch call's own lists hold, written into the lists that the host lends.
 ghost use mathlib.Core.Path.{_≡_};
-ghost use mathlib.Core.List.{List, _++_, map};
-ghost use lib.ListN.{length, take, replicate};
-ghost use Rattle.due.specs.declared.DueItem.{DueItem as Item};
+ghost use lib.ListN.{take, replicate};
 ghost use Rattle.filled.specs.Filled.{filled};
-ghost use Rattle.filled.specs.Numbers.{dueIndex, DueIn};
-ghost use Rattle.steps.specs.Held.{ackItem};
-ghost use Rattle.process_batch.specs.Answer.{partBehind};
+ghost use Rattle.process_batch.specs.Answer.{DueWritten};
 use due::DueItem;
 use due::DueKind;
 
@@ -78,8 +74,8 @@ pub(crate) fn write_due(
     indices: &mut [u64],
     eras: &mut [u64],
 )
-    ensures { λ _. ⌜ ((ds : List Item) → length ds ≡ acks → take acks (now (from .entry)) ≡ map dueIndex ds → ds ≡ map (ackItem era) (map dueIndex ds)
-        → DueIn (ds ++ partBehind acks due next) (now (kinds .entry)) (now (kinds .exit)) (now (indices .entry)) (now (indices .exit)) (now (eras .entry)) (now (eras .exit))) ⌝ }
+    ensures { λ _. ⌜ DueWritten acks due era next (now (from .entry)) (now (kinds .entry)) (now (kinds .exit))
+        (now (indices .entry)) (now (indices .exit)) (now (eras .entry)) (now (eras .exit)) ⌝ }
 {
     fill_kinds(kinds, acks, 1);
     copy_indices(indices, from, acks);

@@ -296,7 +296,7 @@ fn work(
     ensures { λ r. ⌜ WorkedAs (callOf inner (now (batch .entry)) (now (verdicts .entry)) «fault_places» «due_places») era (nodesOf map) tally state r
         (record { ids = now (ids .entry); kinds = now (kinds .entry); indices = now (indices .entry) })
         (record { ids = now (ids .exit); kinds = now (kinds .exit); indices = now (indices .exit) })
-        × EpochFits (r .opening) × (r .committed .due ≤ base .due) ⌝ }
+        × EpochFits (r .opening) × (r .committed .faults ≤ base .faults) × (r .committed .due ≤ base .due) ⌝ }
 {
     let o = process_output::open_batch(
         era,

@@ -1,5 +1,5 @@
 // The values of answers as text: faults, due items, recipe, votes, parts, and encoded values as bytes.
-use crate::fields::find;
+use crate::fields::part;
 use crate::text::put;
 use crate::text::put_between;
 use crate::text::put_first;
@@ -17,32 +17,43 @@ use recipe::Share;
 use signed_votes::SignedVotes;
 use votes::SignedVote;
 
-// The word with a number, counted from 0, of words with a space between two; the empty one at the end where there are fewer.
-fn word(s: &[u8], k: u8) -> &[u8] {
-    let n = s.len();
-    let mut start: usize = 0;
-    let mut i: u8 = 0;
-    while i < k {
-        let e = find(s, start, b' ');
-        if e < n {
-            start = e + 1;
-        } else {
-            start = n;
-        }
-        i += 1;
+// Where the name of a kind of fault starts among the names, by the kind's number; past the last kind, behind them all.
+fn name_start(number: u8) -> usize {
+    match number {
+        0 => 0,
+        1 => 20,
+        2 => 40,
+        3 => 63,
+        4 => 92,
+        5 => 115,
+        6 => 136,
+        7 => 159,
+        8 => 179,
+        9 => 198,
+        10 => 221,
+        11 => 249,
+        12 => 274,
+        13 => 303,
+        14 => 331,
+        15 => 355,
+        16 => 380,
+        17 => 406,
+        18 => 436,
+        _ => 465,
     }
-    let e = find(s, start, b' ');
-    &s[start..e]
 }
 
 // The name of a kind of fault, by the kind's number.
 fn put_kind(out: &mut [u8], at: usize, number: u8) -> usize {
-    let names =
-        b"InvalidVoteSignature InvalidCommittedVote UnexpectedDhbMessageEra InvalidKeyGenMessageSignature UnexpectedKeyGenMessage \
-        TooManyKeyGenMessages InvalidKeyGenMessageEra UnexpectedKeyGenPart UnexpectedKeyGenAck SyncKeyGenPart.RowCount SyncKeyGenPart.MultipleParts \
-        SyncKeyGenPart.DecryptRow SyncKeyGenPart.DeserializeRow SyncKeyGenPart.RowCommitment SyncKeyGenAck.ValueCount SyncKeyGenAck.MissingPart \
-        SyncKeyGenAck.DecryptValue SyncKeyGenAck.DeserializeValue SyncKeyGenAck.ValueCommitment";
-    put(out, at, word(names, number))
+    let names = b"InvalidVoteSignatureInvalidCommittedVoteUnexpectedDhbMessageEra\
+            InvalidKeyGenMessageSignatureUnexpectedKeyGenMessageTooManyKeyGenMessages\
+            InvalidKeyGenMessageEraUnexpectedKeyGenPartUnexpectedKeyGenAck\
+            SyncKeyGenPart.RowCountSyncKeyGenPart.MultipleParts\
+            SyncKeyGenPart.DecryptRowSyncKeyGenPart.DeserializeRowSyncKeyGenPart.RowCommitment\
+            SyncKeyGenAck.ValueCountSyncKeyGenAck.MissingPartSyncKeyGenAck.DecryptValue\
+            SyncKeyGenAck.DeserializeValueSyncKeyGenAck.ValueCommitment";
+    let k = if number < 19 { number } else { 19 };
+    put(out, at, part(names, name_start(k), name_start(k + 1)))
 }
 
 // A fault as `ID:KIND`.

@@ -3,8 +3,6 @@
 use crate::answers::put_fault;
 use crate::fields::BYTES;
 use crate::fields::part;
-use crate::kept::PLACES;
-use crate::parse::Agreed;
 use crate::parse::New;
 use crate::parse::OwnVote;
 use crate::text::OUT;
@@ -21,8 +19,7 @@ use dynamic_honey_badger::Voted;
 use fault_log::FaultKind;
 use joining::StartOutcome;
 use message::Message;
-use process_output::BatchOutcome;
-use process_output::Processed;
+use process_batch::BatchOutcome;
 use votes::SignedVote;
 
 // A replica once one has started, the last report once there is one, and how many bytes the last answer has.
@@ -84,7 +81,7 @@ pub(crate) fn accepted(outcome: StartOutcome) -> bool {
     }
 }
 
-fn reported(outcome: BatchOutcome) -> bool {
+pub(crate) fn reported(outcome: BatchOutcome) -> bool {
     match outcome {
         BatchOutcome::Reported => true,
         BatchOutcome::Refused(_) => false,
@@ -173,36 +170,5 @@ impl Host {
             report,
             said,
         }
-    }
-
-    // What a batch left: where it was refused, the state given, and the last report is kept.
-    fn after(mut self, r: Processed, said: usize) -> Self {
-        self.said = said;
-        let next = r.state;
-        self.replica = next;
-        let outcome = r.outcome;
-        if reported(outcome) {
-            let report = r.batch;
-            self.reported = true;
-            self.report = report;
-        }
-        self
-    }
-
-    pub(crate) fn batch(
-        self,
-        b: Agreed,
-        bytes: &[u8; BYTES],
-        out: &mut [u8; OUT],
-        ids: &mut [u32; PLACES],
-        kinds: &mut [u8; PLACES],
-        due_kinds: &mut [u8; PLACES],
-        indices: &mut [u64; PLACES],
-        eras: &mut [u64; PLACES],
-    ) -> Self {
-        let replica = self.replica;
-        let r = crate::lent::call(replica, b, bytes, ids, kinds, due_kinds, indices, eras);
-        let said = crate::lent::answer(out, r, b, ids, kinds, due_kinds, indices, eras);
-        self.after(r, said)
     }
 }

@@ -8,6 +8,9 @@ pub const PLACES: usize = 2016;
 
 pub const GUARDS: usize = 16;
 
+// How many places behind those filled are looked at after each call; the whole lists are looked at once, at the end.
+pub const NEAR: usize = 64;
+
 // What stands at a place before the call; there is no such kind.
 pub const ID: u32 = 2779096485;
 
@@ -58,13 +61,28 @@ fn guarded(named: usize) -> usize {
     }
 }
 
-// Whether the places of faults behind the first n hold the pattern, up to those named and some behind them.
+// The end of what is looked at behind the first n places of a list.
+fn near(n: usize, end: usize) -> usize {
+    if end <= NEAR {
+        return end;
+    }
+    if n < end - NEAR { n + NEAR } else { end }
+}
+
+// Whether places of faults hold the pattern: those next behind the first n, and some behind those that a line names.
 pub(crate) fn faults_kept(ids: &[u32], kinds: &[u8], n: usize, named: usize) -> bool {
-    let to = guarded(named);
+    let end = guarded(named);
+    let to = near(n, end);
     if !ids_kept(ids, n, to) {
         return false;
     }
-    kinds_kept(kinds, n, to)
+    if !kinds_kept(kinds, n, to) {
+        return false;
+    }
+    if !ids_kept(ids, named, end) {
+        return false;
+    }
+    kinds_kept(kinds, named, end)
 }
 
 // The same of due items.
@@ -75,14 +93,47 @@ pub(crate) fn due_kept(
     n: usize,
     named: usize,
 ) -> bool {
-    let to = guarded(named);
+    let end = guarded(named);
+    let to = near(n, end);
     if !kinds_kept(kinds, n, to) {
         return false;
     }
     if !numbers_kept(indices, n, to) {
         return false;
     }
-    numbers_kept(eras, n, to)
+    if !numbers_kept(eras, n, to) {
+        return false;
+    }
+    if !kinds_kept(kinds, named, end) {
+        return false;
+    }
+    if !numbers_kept(indices, named, end) {
+        return false;
+    }
+    numbers_kept(eras, named, end)
+}
+
+// Whether every place of all lists holds the pattern, as it must between two calls.
+pub(crate) fn all_kept(
+    ids: &[u32; PLACES],
+    kinds: &[u8; PLACES],
+    due_kinds: &[u8; PLACES],
+    indices: &[u64; PLACES],
+    eras: &[u64; PLACES],
+) -> bool {
+    if !ids_kept(ids, 0, PLACES) {
+        return false;
+    }
+    if !kinds_kept(kinds, 0, PLACES) {
+        return false;
+    }
+    if !kinds_kept(due_kinds, 0, PLACES) {
+        return false;
+    }
+    if !numbers_kept(indices, 0, PLACES) {
+        return false;
+    }
+    numbers_kept(eras, 0, PLACES)
 }
 
 // Puts the pattern back at the first n places of faults.

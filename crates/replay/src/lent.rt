@@ -3,13 +3,16 @@ use crate::answers::put_fault;
 use crate::answers::put_keys;
 use crate::answers::put_recipe;
 use crate::answers::put_state;
+use crate::fields::BYTES;
 use crate::fields::part;
+use crate::kept::PLACES;
 use crate::kept::clear_due;
 use crate::kept::clear_faults;
 use crate::kept::due_kept;
 use crate::kept::faults_kept;
 use crate::kept::put_kept;
 use crate::parse::Agreed;
+use crate::text::OUT;
 use crate::text::put;
 use crate::text::put_between;
 use crate::text::put_named;
@@ -17,8 +20,8 @@ use crate::text::say;
 use crate::text::smaller;
 use batch::Batch;
 use dynamic_honey_badger::DynamicHoneyBadger;
-use process_output::BatchOutcome;
-use process_output::Processed;
+use process_batch::BatchOutcome;
+use process_batch::Processed;
 use recipe::Recipe;
 
 // The first n faults of the lists; `-` for none.
@@ -92,74 +95,88 @@ fn put_made(out: &mut [u8], at: usize, made: bool, recipe: Recipe) -> usize {
     put(out, a, b"-")
 }
 
-// How many faults a call filled in; none where it was refused.
-fn fault_count(r: Processed) -> usize {
-    let outcome = r.outcome;
-    let faults = r.faults;
-    match outcome {
-        BatchOutcome::Reported => faults.len(),
-        BatchOutcome::Refused(_) => 0,
-    }
-}
-
-// How many due items.
-fn due_count(r: Processed) -> usize {
-    let outcome = r.outcome;
-    let due = r.due;
-    match outcome {
-        BatchOutcome::Reported => due.len(),
-        BatchOutcome::Refused(_) => 0,
-    }
-}
-
 // What a batch that is not refused answers: the report, and beside it faults, due items and the recipe.
 fn put_batch(
     out: &mut [u8],
-    r: Processed,
+    report: Batch,
+    made: bool,
+    recipe: Recipe,
+    faults: usize,
+    due: usize,
     ids: &[u32],
     kinds: &[u8],
     due_kinds: &[u8],
     indices: &[u64],
     eras: &[u64],
 ) -> usize {
-    let report = r.batch;
-    let recipe = r.recipe;
     let a = put_report(out, report);
-    let b = put_faults(out, a, ids, kinds, fault_count(r));
-    let c = put_due(out, b, due_kinds, indices, eras, due_count(r));
-    put_made(out, c, r.has_recipe, recipe)
+    let b = put_faults(out, a, ids, kinds, faults);
+    let c = put_due(out, b, due_kinds, indices, eras, due);
+    put_made(out, c, made, recipe)
 }
 
 fn put_outcome(
     out: &mut [u8],
-    r: Processed,
+    outcome: BatchOutcome,
+    report: Batch,
+    made: bool,
+    recipe: Recipe,
+    faults: usize,
+    due: usize,
     ids: &[u32],
     kinds: &[u8],
     due_kinds: &[u8],
     indices: &[u64],
     eras: &[u64],
 ) -> usize {
-    let outcome = r.outcome;
     match outcome {
-        BatchOutcome::Reported => put_batch(out, r, ids, kinds, due_kinds, indices, eras),
+        BatchOutcome::Reported => put_batch(
+            out,
+            report,
+            made,
+            recipe,
+            faults,
+            due,
+            ids,
+            kinds,
+            due_kinds,
+            indices,
+            eras,
+        ),
         BatchOutcome::Refused(k) => put_named(out, 0, b"refused ", k as u64),
     }
 }
 
 // Says what a batch answers, looks at the places behind those filled, and clears the lists for the next call.
 pub(crate) fn answer(
-    out: &mut [u8],
-    r: Processed,
+    out: &mut [u8; OUT],
+    outcome: BatchOutcome,
+    report: Batch,
+    made: bool,
+    recipe: Recipe,
+    n: usize,
+    k: usize,
     b: Agreed,
-    ids: &mut [u32],
-    kinds: &mut [u8],
-    due_kinds: &mut [u8],
-    indices: &mut [u64],
-    eras: &mut [u64],
+    ids: &mut [u32; PLACES],
+    kinds: &mut [u8; PLACES],
+    due_kinds: &mut [u8; PLACES],
+    indices: &mut [u64; PLACES],
+    eras: &mut [u64; PLACES],
 ) -> usize {
-    let n = fault_count(r);
-    let k = due_count(r);
-    let a = put_outcome(out, r, ids, kinds, due_kinds, indices, eras);
+    let a = put_outcome(
+        out,
+        outcome,
+        report,
+        made,
+        recipe,
+        n,
+        k,
+        ids,
+        kinds,
+        due_kinds,
+        indices,
+        eras,
+    );
     let kept = faults_kept(ids, kinds, n, b.faults);
     let e = put_kept(out, a, kept, due_kept(due_kinds, indices, eras, k, b.due));
     clear_faults(ids, kinds, n);
@@ -171,7 +188,7 @@ pub(crate) fn answer(
 pub(crate) fn call(
     replica: DynamicHoneyBadger,
     b: Agreed,
-    bytes: &[u8],
+    bytes: &[u8; BYTES],
     ids: &mut [u32],
     kinds: &mut [u8],
     due_kinds: &mut [u8],

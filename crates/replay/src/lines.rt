@@ -5,6 +5,7 @@ ghost use lib.ListN.{length};
 use crate::calls::Host;
 use crate::calls::accepted;
 use crate::calls::open;
+use crate::calls::reported;
 use crate::calls::say_start;
 use crate::fields::BYTES;
 use crate::fields::find;
@@ -14,6 +15,7 @@ use crate::kept::ID;
 use crate::kept::KIND;
 use crate::kept::NUMBER;
 use crate::kept::PLACES;
+use crate::kept::all_kept;
 use crate::parse::Call;
 use crate::parse::MOST_LINE;
 use crate::parse::parse;
@@ -180,17 +182,27 @@ fn tell(out: &[u8; OUT], n: usize, more: bool) -> bool {
     false
 }
 
-// Reads to the end of the input, with turns counted down as above. Each arm hands the host to one function and takes it back, so that its state is moved once in and once out; a
-// question moves none of it. The arrays are lent with their lengths in the type, so no arm has to keep track of them.
-pub(crate) fn read_all() {
+// At the end, what no log expects, where a place of a lent list changed that had to keep what it held.
+fn tell_kept(kept: bool) {
+    if kept {
+        return;
+    }
+    if !io::write_all(STDOUT_FILENO, b"lists changed\n") {
+        os::fail(b"replay: standard output");
+    }
+}
+
+// Reads to the end of the input, with turns counted down as above. The lists are lent with their lengths in the type, so no arm has to keep track of them.
+fn read_all(
+    ids: &mut [u32; PLACES],
+    kinds: &mut [u8; PLACES],
+    due_kinds: &mut [u8; PLACES],
+    indices: &mut [u64; PLACES],
+    eras: &mut [u64; PLACES],
+) {
     let mut input = [0u8; INPUT];
     let mut bytes = [0u8; BYTES];
     let mut out = [0u8; OUT];
-    let mut ids = [ID; PLACES];
-    let mut kinds = [KIND; PLACES];
-    let mut due_kinds = [KIND; PLACES];
-    let mut indices = [NUMBER; PLACES];
-    let mut eras = [NUMBER; PLACES];
     let mut host = Host::new();
     let mut t = Taken {
         at: 0,
@@ -216,9 +228,9 @@ pub(crate) fn read_all() {
                 }
             }
             Call::Join(j) => {
-                let r = join::call(j, &bytes, &mut due_kinds, &mut indices, &mut eras);
+                let r = join::call(j, &bytes, due_kinds, indices, eras);
                 let outcome = r.outcome;
-                host.said = join::answer(&mut out, r, j, &mut due_kinds, &mut indices, &mut eras);
+                host.said = join::answer(&mut out, r, j, due_kinds, indices, eras);
                 if accepted(outcome) {
                     let replica = r.state;
                     host = host.begin(replica);
@@ -233,17 +245,42 @@ pub(crate) fn read_all() {
             Call::Due(n) => {
                 host = host.take_back(n, &bytes, &mut out);
             }
+            // The state goes straight into the call and is put back at once: any other order copies it once more.
             Call::Batch(b) => {
-                host = host.batch(
+                let r = crate::lent::call(
+                    host.replica,
                     b,
                     &bytes,
-                    &mut out,
-                    &mut ids,
-                    &mut kinds,
-                    &mut due_kinds,
-                    &mut indices,
-                    &mut eras,
+                    ids,
+                    kinds,
+                    due_kinds,
+                    indices,
+                    eras,
                 );
+                let next = r.state;
+                host.replica = next;
+                let outcome = r.outcome;
+                let report = r.batch;
+                let recipe = r.recipe;
+                host.said = crate::lent::answer(
+                    &mut out,
+                    outcome,
+                    report,
+                    r.has_recipe,
+                    recipe,
+                    r.faults,
+                    r.due,
+                    b,
+                    ids,
+                    kinds,
+                    due_kinds,
+                    indices,
+                    eras,
+                );
+                if reported(outcome) {
+                    host.reported = true;
+                    host.report = report;
+                }
             }
             Call::Ask(q) => {
                 let said = ask(host, q, &bytes, &mut out);
@@ -251,8 +288,25 @@ pub(crate) fn read_all() {
             }
         }
         if !tell(&out, host.said, t.more) {
+            tell_kept(all_kept(ids, kinds, due_kinds, indices, eras));
             return;
         }
         turns -= 1;
     }
+}
+
+// Reads all, with lists that hold the pattern.
+pub(crate) fn run() {
+    let mut ids = [ID; PLACES];
+    let mut kinds = [KIND; PLACES];
+    let mut due_kinds = [KIND; PLACES];
+    let mut indices = [NUMBER; PLACES];
+    let mut eras = [NUMBER; PLACES];
+    read_all(
+        &mut ids,
+        &mut kinds,
+        &mut due_kinds,
+        &mut indices,
+        &mut eras,
+    );
 }

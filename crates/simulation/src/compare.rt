@@ -1,10 +1,11 @@
 // In what two replicas differ first, in what they tell and in what they hold of what is shared.
+use crate::host::Faults;
 use batch::Batch;
 use change::ChangeState;
 use dynamic_honey_badger::DynamicHoneyBadger;
-use fault_log::Fault;
+use fault_log::AckFault;
 use fault_log::FaultKind;
-use fault_log::FaultLog;
+use fault_log::PartFault;
 use key_gen::KeyGen;
 use key_gen::Proposal;
 use key_gen_state::KeyGenState;
@@ -208,53 +209,73 @@ pub(crate) fn same_report(a: Batch, b: Batch) -> bool {
     same_params(params, other_params)
 }
 
-// Whether a kind of fault follows from a replica's own verdicts: rows 11 to 13 and values 16 to 18.
-fn is_own(kind: FaultKind) -> bool {
-    let k = kind.number();
-    if k < 11 {
-        return false;
-    }
-    if k < 14 {
+fn part_number(x: PartFault) -> u8 {
+    let kind = FaultKind::SyncKeyGenPart(x);
+    kind.number()
+}
+
+fn ack_number(x: AckFault) -> u8 {
+    let kind = FaultKind::SyncKeyGenAck(x);
+    kind.number()
+}
+
+// Whether a kind is one of a replica's own row of a part.
+fn is_of_row(kind: u8) -> bool {
+    if kind == part_number(PartFault::DecryptRow) {
         return true;
     }
-    15 < k
+    if kind == part_number(PartFault::DeserializeRow) {
+        return true;
+    }
+    kind == part_number(PartFault::RowCommitment)
+}
+
+// Whether a kind is one of a replica's own value of an ack.
+fn is_of_value(kind: u8) -> bool {
+    if kind == ack_number(AckFault::DecryptValue) {
+        return true;
+    }
+    if kind == ack_number(AckFault::DeserializeValue) {
+        return true;
+    }
+    kind == ack_number(AckFault::ValueCommitment)
+}
+
+// Whether a kind of fault, by its number, follows from a replica's own verdicts.
+fn is_own(kind: u8) -> bool {
+    if is_of_row(kind) {
+        return true;
+    }
+    is_of_value(kind)
 }
 
 // The faults that every replica must tell, in order.
-pub(crate) fn shared_faults(log: FaultLog) -> FaultLog {
-    let n = log.len();
-    let mut shared = FaultLog::empty();
+pub(crate) fn shared_faults(all: Faults) -> Faults {
+    let n = all.len();
+    let mut shared = Faults::empty();
     let mut i: usize = 0;
     while i < n {
-        let x = log.faults[i];
-        let kind = x.kind;
+        let id = all.ids[i];
+        let kind = all.kinds[i];
         if !is_own(kind) {
-            shared = shared.append(x);
+            shared = shared.append(id, kind);
         }
         i += 1;
     }
     shared
 }
 
-fn same_fault(a: Fault, b: Fault) -> bool {
-    let x = a.kind;
-    let y = b.kind;
-    if a.node_id != b.node_id {
-        return false;
-    }
-    x.number() == y.number()
-}
-
-pub(crate) fn same_faults(a: FaultLog, b: FaultLog) -> bool {
+pub(crate) fn same_faults(a: Faults, b: Faults) -> bool {
     let n = a.len();
     if n != b.len() {
         return false;
     }
     let mut i: usize = 0;
     while i < n {
-        let x = a.faults[i];
-        let y = b.faults[i];
-        if !same_fault(x, y) {
+        if a.ids[i] != b.ids[i] {
+            return false;
+        }
+        if a.kinds[i] != b.kinds[i] {
             return false;
         }
         i += 1;

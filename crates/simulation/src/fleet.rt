@@ -5,13 +5,13 @@ use crate::batches::Written;
 use crate::batches::first;
 use crate::compare::Difference;
 use crate::host::Called;
+use crate::host::Faults;
 use batch::Batch;
 use change::ChangeState;
 use dynamic_honey_badger::DynamicHoneyBadger;
-use fault_log::FaultLog;
 use internal_contrib::CheckBatch;
-use process_output::BatchOutcome;
-use process_output::Processed;
+use process_batch::BatchOutcome;
+use process_batch::Processed;
 
 // Places from `count` on hold no replica. The report is the first replica's of the last batch,
 // and counts if that was not refused; `agree` says whether all answered the last batch alike, `going` whether all that was to be written was.
@@ -84,12 +84,11 @@ impl Fleet {
         if !self.going {
             return self;
         }
-        let a = handle(self.replica(0), 0, inner, batch);
-        let first = a.processed;
-        let f = self.lead(first);
-        let g = f.expect(step, a.right);
-        let h = g.follow(step, first, inner, batch);
-        h.tell(step, first)
+        let first = handle(self.replica(0), 0, inner, batch);
+        let processed = first.processed;
+        let f = self.lead(processed);
+        let g = f.follow(step, first, inner, batch);
+        g.tell(step, first)
     }
 
     // What the first replica answered.
@@ -102,7 +101,7 @@ impl Fleet {
     }
 
     // The other replicas take the batch.
-    fn follow(mut self, step: u64, first: Processed, inner: u64, batch: Written) -> Self {
+    fn follow(mut self, step: u64, first: Called, inner: u64, batch: Written) -> Self {
         let n = self.len();
         let mut i: usize = 1;
         while i < n {
@@ -114,14 +113,13 @@ impl Fleet {
     }
 
     // What replica i answered, compared with the first's answer.
-    fn compared(self, step: u64, first: Processed, i: usize, b: Called) -> Self
+    fn compared(self, step: u64, first: Called, i: usize, b: Called) -> Self
         requires { ⌜ i < replicas ⌝ }
     {
         let other = b.processed;
         let state = other.state;
         let f = self.put(i, state);
-        let g = f.expect(step, b.right);
-        g.differs(step, i, difference(first, other))
+        f.differs(step, i, difference(first, b))
     }
 
     // Whether all agree still, after replica i was compared with the first; the first difference of a step is said.
@@ -137,7 +135,7 @@ impl Fleet {
     }
 
     // What all answered, where they agree.
-    fn tell(mut self, step: u64, a: Processed) -> Self {
+    fn tell(mut self, step: u64, a: Called) -> Self {
         if self.agree {
             self.going = tell(self.going, step, a);
         }
@@ -187,7 +185,9 @@ fn handle(state: DynamicHoneyBadger, i: usize, inner: u64, batch: Written) -> Ca
 }
 
 // The refusal's number, 0 where there is none.
-fn number(outcome: BatchOutcome) -> u8 {
+fn number(a: Called) -> u8 {
+    let processed = a.processed;
+    let outcome = processed.outcome;
     match outcome {
         BatchOutcome::Reported => 0,
         BatchOutcome::Refused(n) => n,
@@ -195,7 +195,7 @@ fn number(outcome: BatchOutcome) -> u8 {
 }
 
 // The same faults but for those of the replica's own verdicts.
-fn same_logs(a: Processed, b: Processed) -> bool {
+fn same_logs(a: Called, b: Called) -> bool {
     let faults = a.faults;
     let other_faults = b.faults;
     crate::compare::same_faults(
@@ -204,11 +204,17 @@ fn same_logs(a: Processed, b: Processed) -> bool {
     )
 }
 
+fn same_reports(a: Called, b: Called) -> bool {
+    let x = a.processed;
+    let y = b.processed;
+    let report = x.batch;
+    let other_report = y.batch;
+    crate::compare::same_report(report, other_report)
+}
+
 // The reports, then the faults.
-fn told_difference(a: Processed, b: Processed) -> Difference {
-    let report = a.batch;
-    let other_report = b.batch;
-    if !crate::compare::same_report(report, other_report) {
+fn told_difference(a: Called, b: Called) -> Difference {
+    if !same_reports(a, b) {
         return Difference::Report;
     }
     if !same_logs(a, b) {
@@ -217,20 +223,20 @@ fn told_difference(a: Processed, b: Processed) -> Difference {
     Difference::Nothing
 }
 
-fn state_difference(a: Processed, b: Processed) -> Difference {
-    let state = a.state;
-    let other_state = b.state;
+fn state_difference(a: Called, b: Called) -> Difference {
+    let x = a.processed;
+    let y = b.processed;
+    let state = x.state;
+    let other_state = y.state;
     crate::compare::shared_difference(state, other_state)
 }
 
 // The refusals or what was told, then the shared state.
-fn difference(a: Processed, b: Processed) -> Difference {
-    let x = a.outcome;
-    let y = b.outcome;
-    if number(x) != number(y) {
+fn difference(a: Called, b: Called) -> Difference {
+    if number(a) != number(b) {
         return Difference::Refusal;
     }
-    if number(x) == 0 {
+    if number(a) == 0 {
         let Difference::Nothing = told_difference(a, b) else {
             return told_difference(a, b);
         };
@@ -239,7 +245,7 @@ fn difference(a: Processed, b: Processed) -> Difference {
 }
 
 // How many faults every replica must tell.
-fn shared_count(faults: FaultLog) -> usize {
+fn shared_count(faults: Faults) -> usize {
     let shared = crate::compare::shared_faults(faults);
     shared.len()
 }
@@ -252,10 +258,10 @@ pub(crate) fn tell_network(going: bool, state: DynamicHoneyBadger) -> bool {
 }
 
 // A refused batch has no faults.
-fn tell(going: bool, step: u64, a: Processed) -> bool {
-    let outcome = a.outcome;
+fn tell(going: bool, step: u64, a: Called) -> bool {
+    let processed = a.processed;
     let faults = a.faults;
-    let still = crate::show::agree(going, step, number(outcome), shared_count(faults));
-    let state = a.state;
+    let still = crate::show::agree(going, step, number(a), shared_count(faults));
+    let state = processed.state;
     tell_network(still, state)
 }

@@ -5,7 +5,7 @@ use Rattle.simulation.proofs.compare.same_faults.Statement.{statement}
 use Rattle.simulation.proofs.compare.same_faults.Tie as tie
 
 abbrev Inv-loop : tie.InvT-loop
-Inv-loop a b n i₀ i = (i ≤ n) × (n ≤ base .faults)
+Inv-loop a b n i₀ i = n ≤ base .faults
 
 abbrev μ-loop : tie.MeasureT-loop
 μ-loop a b n i₀ i = n - i
@@ -22,23 +22,29 @@ returns c = search needs
 loop-holds : tie.Need-loop-holds Inv-loop μ-loop
 loop-holds c = search needs
 
-mul-x : tie.Need-mul-x Inv-loop μ-loop
-mul-x c = search needs
+mul-if2 : tie.Need-mul-if2 Inv-loop μ-loop
+mul-if2 c = search needs
 
-element-copy-out-x : tie.Need-element-copy-out-x Inv-loop μ-loop
-element-copy-out-x c = search needs
+element-copy-out-if2 : tie.Need-element-copy-out-if2 Inv-loop μ-loop
+element-copy-out-if2 c = search needs
 
-mul-y : tie.Need-mul-y Inv-loop μ-loop
-mul-y c = search needs
+mul-if2-2 : tie.Need-mul-if2-2 Inv-loop μ-loop
+mul-if2-2 c = search needs
 
-element-copy-out-y : tie.Need-element-copy-out-y Inv-loop μ-loop
-element-copy-out-y c = search needs
-
-same-fault-requires : tie.Need-same-fault-requires Inv-loop μ-loop
-same-fault-requires c κs = search needs
+element-copy-out-if2-2 : tie.Need-element-copy-out-if2-2 Inv-loop μ-loop
+element-copy-out-if2-2 c = search needs
 
 returns-2 : tie.Need-returns-2 Inv-loop μ-loop
 returns-2 c = search needs
+
+element-copy-out-if3 : tie.Need-element-copy-out-if3 Inv-loop μ-loop
+element-copy-out-if3 c = search needs
+
+element-copy-out-if3-2 : tie.Need-element-copy-out-if3-2 Inv-loop μ-loop
+element-copy-out-if3-2 c = search needs
+
+returns-3 : tie.Need-returns-3 Inv-loop μ-loop
+returns-3 c = search needs
 
 add-i : tie.Need-add-i Inv-loop μ-loop
 add-i c = search needs
@@ -49,8 +55,8 @@ loop-less c = search needs
 loop-again : tie.Need-loop-again Inv-loop μ-loop
 loop-again c = search needs
 
-returns-3 : tie.Need-returns-3 Inv-loop μ-loop
-returns-3 c = search needs
+returns-4 : tie.Need-returns-4 Inv-loop μ-loop
+returns-4 c = search needs
 
 pub same-faults-spec : {M : Type 1} → statement M
 same-faults-spec =
@@ -62,13 +68,15 @@ same-faults-spec =
     len-requires-2
     returns
     loop-holds
-    mul-x
-    element-copy-out-x
-    mul-y
-    element-copy-out-y
-    same-fault-requires
+    mul-if2
+    element-copy-out-if2
+    mul-if2-2
+    element-copy-out-if2-2
     returns-2
+    element-copy-out-if3
+    element-copy-out-if3-2
+    returns-3
     add-i
     loop-less
     loop-again
-    returns-3)
+    returns-4)

@@ -5,10 +5,10 @@ use Rattle.simulation.proofs.compare.shared_faults.Statement.{statement
 use Rattle.simulation.proofs.compare.shared_faults.Tie as tie
 
 abbrev Inv-loop : tie.InvT-loop
-Inv-loop log n shared₀ i₀ shared i = (i ≤ n) × (n ≤ base .faults)
+Inv-loop all n shared₀ i₀ shared i = n ≤ base .faults
 
 abbrev μ-loop : tie.MeasureT-loop
-μ-loop log n shared₀ i₀ shared i = n - i
+μ-loop all n shared₀ i₀ shared i = n - i
 
 len-requires : tie.Need-len-requires Inv-loop μ-loop
 len-requires c κs = search needs
@@ -19,11 +19,14 @@ empty-requires c κs = search needs
 loop-holds : tie.Need-loop-holds Inv-loop μ-loop
 loop-holds c = search needs
 
-mul-x : tie.Need-mul-x Inv-loop μ-loop
-mul-x c = search needs
+mul-id : tie.Need-mul-id Inv-loop μ-loop
+mul-id c = search needs
 
-element-copy-out-x : tie.Need-element-copy-out-x Inv-loop μ-loop
-element-copy-out-x c = search needs
+element-copy-out-id : tie.Need-element-copy-out-id Inv-loop μ-loop
+element-copy-out-id c = search needs
+
+element-copy-out-kind : tie.Need-element-copy-out-kind Inv-loop μ-loop
+element-copy-out-kind c = search needs
 
 is-own-requires : tie.Need-is-own-requires Inv-loop μ-loop
 is-own-requires c κs = search needs
@@ -52,8 +55,9 @@ shared-faults-spec =
     len-requires
     empty-requires
     loop-holds
-    mul-x
-    element-copy-out-x
+    mul-id
+    element-copy-out-id
+    element-copy-out-kind
     is-own-requires
     append-requires
     add-i
