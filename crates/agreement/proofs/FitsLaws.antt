@@ -20,7 +20,8 @@ use Rattle.dynamic_honey_badger.proofs.DynamicHoneyBadger.vote_to_add.Kinds as 
 use Rattle.dynamic_honey_badger.proofs.DynamicHoneyBadger.vote_to_remove.Kinds as removing
 use Rattle.dynamic_honey_badger.proofs.DynamicHoneyBadger.handle_message.Kinds as handling
 use Rattle.due_item.proofs.handle_due_item.Kinds as returning
-use Rattle.process_output.proofs.process_output.Kinds as processing
+use Rattle.process_batch.specs.Lent.{lentCall}
+use Rattle.process_batch.proofs.process_batch.Kinds as processing
 use Rattle.agreement.specs.Calls.{Call, batch-call, vote-call, add-call, remove-call, message-call, due-call, batchCalls, Start, new-start, join-start}
 use Rattle.agreement.specs.Hypotheses.{OfBytes, StartBytes}
 use Rattle.agreement.specs.Formed.{CallFits, StartFits}
@@ -40,9 +41,21 @@ pub joining-fits : (κs : Lfts 4) (a : Dens κs joining.ps) → GoodsP κs joini
     → StartFits (join-start (duePlaces (now (a .1 .1 .1 .0)) (now (a .1 .1 .1 .1 .0)) (now (a .1 .1 .1 .1 .1 .0))) (a .0) (a .1 .0) (now (a .1 .1 .0)))
 joining-fits κs a g plan = (omega (arith, g .0 .1), omega (arith, g .1 .0 .1), bytes-fit (now (a .1 .1 .0)) plan)
 
--- a batch: inner epoch, batch, verdicts, lent places
-pub batch-fits : (κs : Lfts 2) (a : Dens κs processing.ps) → GoodsP κs processing.ps a → Fit (fInt w8) 0 (now (a .1 .1 .0)) → Fit (fInt w8) 0 (now (a .1 .1 .1 .0))
-    → CallFits (batch-call (record { inner = a .1 .0; bytes = now (a .1 .1 .0); verdicts = now (a .1 .1 .1 .0); fault-places = a .1 .1 .1 .1 .0; due-places = a .1 .1 .1 .1 .1 .0 }))
+-- a batch: inner epoch, batch, verdicts, lent lists of faults and of due items
+pub batch-fits : (κs : Lfts 7) (a : Dens κs processing.ps) → GoodsP κs processing.ps a → Fit (fInt w8) 0 (now (a .1 .1 .0)) → Fit (fInt w8) 0 (now (a .1 .1 .1 .0))
+    → CallFits
+    (batch-call
+    (lentCall
+    (a .1 .0)
+    (now (a .1 .1 .0))
+    (now (a .1 .1 .1 .0))
+    (record {
+      fault-ids = now (a .1 .1 .1 .1 .0);
+      fault-kinds = now (a .1 .1 .1 .1 .1 .0);
+      due-kinds = now (a .1 .1 .1 .1 .1 .1 .0);
+      due-indices = now (a .1 .1 .1 .1 .1 .1 .1 .0);
+      due-eras = now (a .1 .1 .1 .1 .1 .1 .1 .1 .0);
+    })))
 batch-fits κs a g batch verdicts = (omega (arith, g .1 .0 .1), bytes-fit (now (a .1 .1 .0)) batch, bytes-fit (now (a .1 .1 .1 .0)) verdicts)
 
 -- own votes: a change; an id with its key; an id

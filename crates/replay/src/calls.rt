@@ -12,6 +12,7 @@ use crate::text::say;
 use crate::text::say_first;
 use batch::Batch;
 use dynamic_honey_badger::DynamicHoneyBadger;
+use dynamic_honey_badger::Handled;
 use dynamic_honey_badger::Handling;
 use dynamic_honey_badger::Started;
 use dynamic_honey_badger::VoteDone;
@@ -39,9 +40,7 @@ fn say_cast(out: &mut [u8], vote: SignedVote) -> usize {
 }
 
 // What an own vote answers.
-fn say_vote(out: &mut [u8], r: Voted) -> usize {
-    let outcome = r.outcome;
-    let vote = r.vote;
+pub(crate) fn say_vote(out: &mut [u8; OUT], outcome: VoteDone, vote: SignedVote) -> usize {
     match outcome {
         VoteDone::Cast => say_cast(out, vote),
         VoteDone::Nothing => put(out, 0, b"nothing\n"),
@@ -57,7 +56,7 @@ fn say_fault(out: &mut [u8], sender: u32, kind: FaultKind) -> usize {
 }
 
 // What a message answers.
-fn say_handling(out: &mut [u8], sender: u32, outcome: Handling) -> usize {
+pub(crate) fn say_handling(out: &mut [u8; OUT], sender: u32, outcome: Handling) -> usize {
     match outcome {
         Handling::Quiet => put(out, 0, b"handled\n"),
         Handling::Faulty(k) => say_fault(out, sender, k),
@@ -88,12 +87,25 @@ pub(crate) fn reported(outcome: BatchOutcome) -> bool {
     }
 }
 
-fn cast(replica: DynamicHoneyBadger, v: OwnVote, bytes: &[u8]) -> Voted {
+pub(crate) fn cast(replica: DynamicHoneyBadger, v: OwnVote, bytes: &[u8; BYTES]) -> Voted {
     match v {
         OwnVote::For(n) => replica.vote_for(part(bytes, 0, n)),
         OwnVote::Add(id, key) => replica.vote_to_add(id, key),
         OwnVote::Remove(id) => replica.vote_to_remove(id),
     }
+}
+
+pub(crate) fn receive(
+    replica: DynamicHoneyBadger,
+    sender: u32,
+    n: usize,
+    bytes: &[u8; BYTES],
+) -> Handled {
+    replica.handle_message(sender, part(bytes, 0, n))
+}
+
+pub(crate) fn take_back(replica: DynamicHoneyBadger, n: usize, bytes: &[u8; BYTES]) -> Handled {
+    due_item::handle_due_item(replica, part(bytes, 0, n))
 }
 
 pub(crate) fn open(n: New, bytes: &[u8; BYTES]) -> Started {
@@ -124,51 +136,6 @@ impl Host {
             reported: false,
             report,
             said: self.said,
-        }
-    }
-
-    pub(crate) fn vote(mut self, v: OwnVote, bytes: &[u8; BYTES], out: &mut [u8; OUT]) -> Self {
-        let replica = self.replica;
-        let r = cast(replica, v, bytes);
-        self.said = say_vote(out, r);
-        let next = r.state;
-        self.replica = next;
-        self
-    }
-
-    pub(crate) fn receive(
-        self,
-        sender: u32,
-        n: usize,
-        bytes: &[u8; BYTES],
-        out: &mut [u8; OUT],
-    ) -> Self {
-        let replica = self.replica;
-        let r = replica.handle_message(sender, part(bytes, 0, n));
-        let outcome = r.outcome;
-        let said = say_handling(out, sender, outcome);
-        let next = r.state;
-        self.with(next, said)
-    }
-
-    // A due item has no sender whose fault it could be.
-    pub(crate) fn take_back(self, n: usize, bytes: &[u8; BYTES], out: &mut [u8; OUT]) -> Self {
-        let replica = self.replica;
-        let r = due_item::handle_due_item(replica, part(bytes, 0, n));
-        let outcome = r.outcome;
-        let said = say_handling(out, 0, outcome);
-        let next = r.state;
-        self.with(next, said)
-    }
-
-    fn with(self, replica: DynamicHoneyBadger, said: usize) -> Self {
-        let report = self.report;
-        Host {
-            started: true,
-            replica,
-            reported: self.reported,
-            report,
-            said,
         }
     }
 }

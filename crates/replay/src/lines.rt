@@ -4,9 +4,14 @@ ghost use Prim.Native.Nat.{_+_, _≤_};
 ghost use lib.ListN.{length};
 use crate::calls::Host;
 use crate::calls::accepted;
+use crate::calls::cast;
 use crate::calls::open;
+use crate::calls::receive;
 use crate::calls::reported;
+use crate::calls::say_handling;
 use crate::calls::say_start;
+use crate::calls::say_vote;
+use crate::calls::take_back;
 use crate::fields::BYTES;
 use crate::fields::find;
 use crate::fields::part;
@@ -236,16 +241,30 @@ fn read_all(
                     host = host.begin(replica);
                 }
             }
+            // The state goes straight into a call and is put back at once: any other order copies it once more.
             Call::Vote(v) => {
-                host = host.vote(v, &bytes, &mut out);
+                let r = cast(host.replica, v, &bytes);
+                let next = r.state;
+                host.replica = next;
+                let outcome = r.outcome;
+                let vote = r.vote;
+                host.said = say_vote(&mut out, outcome, vote);
             }
             Call::Message(sender, n) => {
-                host = host.receive(sender, n, &bytes, &mut out);
+                let r = receive(host.replica, sender, n, &bytes);
+                let next = r.state;
+                host.replica = next;
+                let outcome = r.outcome;
+                host.said = say_handling(&mut out, sender, outcome);
             }
+            // A due item has no sender whose fault it could be.
             Call::Due(n) => {
-                host = host.take_back(n, &bytes, &mut out);
+                let r = take_back(host.replica, n, &bytes);
+                let next = r.state;
+                host.replica = next;
+                let outcome = r.outcome;
+                host.said = say_handling(&mut out, 0, outcome);
             }
-            // The state goes straight into the call and is put back at once: any other order copies it once more.
             Call::Batch(b) => {
                 let r = crate::lent::call(
                     host.replica,

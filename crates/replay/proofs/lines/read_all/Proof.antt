@@ -1,4 +1,5 @@
 use borrow.Author.Needs.{needs}
+use native.Mathlib.Omega.{arith}
 use Prim.Native.Nat.{_≤_}
 use mathlib.Core.Path.{_≡_, _∙_}
 use lib.ListN.{length}
@@ -70,8 +71,11 @@ begin-requires-2 c κs = search needs
 enum-known-call-3 : tie.Need-enum-known-call-3 Inv-loop μ-loop
 enum-known-call-3 c = search needs
 
-vote-requires : tie.Need-vote-requires Inv-loop μ-loop
-vote-requires c κs = search needs
+cast-requires : tie.Need-cast-requires Inv-loop μ-loop
+cast-requires c κs = search needs
+
+say-vote-requires : tie.Need-say-vote-requires Inv-loop μ-loop
+say-vote-requires c κs = search needs
 
 enum-known-call-4 : tie.Need-enum-known-call-4 Inv-loop μ-loop
 enum-known-call-4 c = search needs
@@ -79,11 +83,17 @@ enum-known-call-4 c = search needs
 receive-requires : tie.Need-receive-requires Inv-loop μ-loop
 receive-requires c κs = search needs
 
+say-handling-requires : tie.Need-say-handling-requires Inv-loop μ-loop
+say-handling-requires c κs = search needs
+
 enum-known-call-5 : tie.Need-enum-known-call-5 Inv-loop μ-loop
 enum-known-call-5 c = search needs
 
 take-back-requires : tie.Need-take-back-requires Inv-loop μ-loop
 take-back-requires c κs = search needs
+
+say-handling-requires-2 : tie.Need-say-handling-requires-2 Inv-loop μ-loop
+say-handling-requires-2 c κs = search needs
 
 enum-known-call-6 : tie.Need-enum-known-call-6 Inv-loop μ-loop
 enum-known-call-6 c = search needs
@@ -119,7 +129,7 @@ sub-turns : tie.Need-sub-turns Inv-loop μ-loop
 sub-turns c = search needs
 
 loop-less : tie.Need-loop-less Inv-loop μ-loop
-loop-less c = search needs
+loop-less c = omega (arith, c .before .before .before .before .before .before .before .before .before .before .before .loop-test .taken)
 
 loop-again : tie.Need-loop-again Inv-loop μ-loop
 loop-again c =
@@ -154,11 +164,14 @@ read-all-spec =
     accepted-requires-2
     begin-requires-2
     enum-known-call-3
-    vote-requires
+    cast-requires
+    say-vote-requires
     enum-known-call-4
     receive-requires
+    say-handling-requires
     enum-known-call-5
     take-back-requires
+    say-handling-requires-2
     enum-known-call-6
     call-requires-2
     answer-requires-2
