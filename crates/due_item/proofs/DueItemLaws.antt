@@ -1,42 +1,53 @@
 -- Laws of due items handed back: what one does, by the first test that decides, and how its bytes are read.
 -- Assumes nothing.
 use borrow.Author.Tests.{eq-eqb, ne-eqb}
-use mathlib.Core.Bool.{true, false}
+use mathlib.Core.Bool.{Bool, true, false, cond}
 use mathlib.Core.List.{List}
 use mathlib.Core.Path.{_≡_, refl, sym, ap, _∙_}
 use Prim.Native.Nat.{ℕ}
 use lib.Dec.{ltb}
 use lib.ListN.{length}
 use Rattle.bincode.specs.Numbers.{readNum}
-use Rattle.bincode.specs.Outcome.{Outcome}
 use Rattle.bincode.specs.Read.{value, refuse, whole}
 use Rattle.bincode.specs.Sizes.{Sizes}
 use Rattle.bincode.proofs.ReadLaws.{same-value, bind-value, cond-value, whole-refused}
-use Rattle.lists.proofs.ListLaws.{cond-yes, cond-no}
+use Rattle.lists.proofs.ListLaws.{cond-yes}
+use Rattle.pub_key_map.specs.declared.Node.{Node}
+use Rattle.network_info.specs.NetworkInfo.{isMember}
 use Rattle.key_gen_message.specs.KeyGenMessage.{KeyGenMessageOf, SignedKeyGenMsgOf, messageOf, readKeyGenMessage}
 use Rattle.message.specs.declared.Message.{Message}
 use Rattle.message.specs.Message.{MessageContent, keyGen, contentHeld, readKeyGen, readMessage}
-use Rattle.message_store.specs.MessageStore.{pushed}
+use Rattle.message_store.specs.MessageStore.{row12, pushed}
 use Rattle.dynamic_honey_badger.specs.Received.{HandledOf, quiet, refusal, handledAs, signedBy, storedIn, readDueItem, returnedKeyGen, returnedRead, returned}
-use Rattle.dynamic_honey_badger.specs.State.{StateOf, eraOf, isValidator}
+use Rattle.dynamic_honey_badger.specs.State.{StateOf, eraOf, nodesIn}
+use Rattle.dynamic_honey_badger.proofs.PartsLaws.{validator}
+use Rattle.dynamic_honey_badger.proofs.JudgedLaws.{full-refuses}
 use Rattle.dynamic_honey_badger.proofs.ReceivedLaws.{held-content}
 
-module _ (z : Sizes) (s : StateOf) (m : SignedKeyGenMsgOf) where
+-- what a key message does, by the parts of the state
+module _ (z : Sizes) (s : StateOf) (m : SignedKeyGenMsgOf) (era : ℕ) (own : eraOf s ≡ era) where
   -- one of another era is dropped
-  pub kept-era : (m .era ≡ eraOf s → ⊥) → returnedKeyGen z s m ≡ handledAs s quiet
+  pub kept-era : (m .era ≡ era → ⊥) → returnedKeyGen z s m ≡ handledAs s quiet
   unfolding returnedKeyGen
-  kept-era h = rw (ne-eqb (m .era) (eraOf s) h)
+  kept-era h = rw (ne-eqb (m .era) (eraOf s) (λ e. h (e ∙ own)))
 
-  module _ (e : m .era ≡ eraOf s) where
+  module _ (e : m .era ≡ era) (ns : List Node) (id : ℕ) (nodes : nodesIn s ≡ ns) (ours : s .counter .our-id ≡ id) where
+    now-kept : (b : Bool) → isMember ns id ≡ b → returnedKeyGen z s m ≡ cond b (storedIn s s (pushed z (s .store) m)) (handledAs s quiet)
+    unfolding returnedKeyGen
+    now-kept b v = cond-yes _ _ (eq-eqb (m .era) (eraOf s) (e ∙ sym own)) ∙ rw (validator s ns id b nodes ours v)
+
     -- one made by a non-validator is dropped
-    pub kept-outsider : isValidator s ≡ false → returnedKeyGen z s m ≡ handledAs s quiet
-    unfolding returnedKeyGen
-    kept-outsider v = cond-yes _ _ (eq-eqb (m .era) (eraOf s) e) ∙ cond-no _ _ v
+    pub kept-outsider : isMember ns id ≡ false → returnedKeyGen z s m ≡ handledAs s quiet
+    kept-outsider v = now-kept false v
 
-    -- the others are stored
-    pub kept-stored : isValidator s ≡ true → (o : Outcome (List SignedKeyGenMsgOf)) → o ≡ pushed z (s .store) m → returnedKeyGen z s m ≡ storedIn s s o
-    unfolding returnedKeyGen
-    kept-stored v o p = cond-yes _ _ (eq-eqb (m .era) (eraOf s) e) ∙ cond-yes _ _ v ∙ ap (storedIn s s) (sym p)
+    module _ (v : isMember ns id ≡ true) where
+      -- the others are stored
+      pub kept-stored : returnedKeyGen z s m ≡ storedIn s s (pushed z (s .store) m)
+      kept-stored = now-kept true v
+
+      -- where there is room
+      pub kept-full : row12 z (s .store) ≡ true → returnedKeyGen z s m ≡ handledAs s (refusal 12)
+      kept-full r = kept-stored ∙ ap (storedIn s s) (full-refuses z (s .store) m r)
 
 module _ (z : Sizes) (bytes : List ℕ) where
   -- a key message's bytes hold a key message

@@ -2,6 +2,8 @@ pub mod StateLaws
 pub mod JoinLaws
 pub mod OwnVotesLaws
 pub mod ReceivedLaws
+pub mod PartsLaws
+pub mod JudgedLaws
 pub mod AskedLaws
 pub mod PageEraLaws
 pub mod PageVoteLaws

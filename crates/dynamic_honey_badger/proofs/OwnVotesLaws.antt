@@ -3,7 +3,7 @@
 use borrow.Author.Tests.{eq-eqb, ne-eqb}
 use mathlib.Core.Bool.{true, false}
 use mathlib.Core.List.{List}
-use mathlib.Core.Path.{_≡_, sym, ap, _∙_}
+use mathlib.Core.Path.{_≡_, sym, ap}
 use Prim.Native.Nat.{ℕ}
 use Rattle.lists.specs.Lists.{nothing}
 use Rattle.bincode.specs.Numbers.{fixed}
@@ -13,15 +13,8 @@ use Rattle.bincode.specs.Sizes.{Sizes}
 use Rattle.change.specs.Change.{ChangeOf, nodeChange, readChange}
 use Rattle.vote_counter.specs.VoteCounter.{Signed, signVoteFor}
 use Rattle.node_change.specs.NodeChange.{row13, withNode}
-use Rattle.dynamic_honey_badger.specs.declared.DynamicHoneyBadger.{DynamicHoneyBadger}
-use Rattle.dynamic_honey_badger.specs.declared.VoteDone.{VoteDone}
-use Rattle.dynamic_honey_badger.specs.declared.Voted.{Voted}
-use Rattle.dynamic_honey_badger.specs.OwnVotes.{votedAs, notCast, NotCastKeeps, signedIn, voteFor, voteForBytes, voteToAdd}
+use Rattle.dynamic_honey_badger.specs.OwnVotes.{votedAs, signedIn, voteFor, voteForBytes, voteToAdd}
 use Rattle.dynamic_honey_badger.specs.State.{StateOf, nodesIn, isValidator}
-
--- what `no_vote` hands back is as it should be
-pub not-cast : (s : DynamicHoneyBadger) (o : VoteDone) (r : Voted) → r ≡ notCast s o → NotCastKeeps r s
-not-cast s o r h e = h ∙ ap (notCast s) (sym (ap (λ (r : Voted). r .outcome) h))
 
 module _ (z : Sizes) (s : StateOf) where
   -- a non-validator's vote does nothing, a validator's is signed

@@ -8,7 +8,6 @@ use Prim.Native.Nat.{ℕ, _+_, _≤_, _<_}
 use native.Mathlib.Omega.{arith}
 use Rattle.lists.specs.Lists.{found, nothing}
 use Rattle.bincode.specs.Outcome.{Outcome}
-use Rattle.bincode.specs.Read.{value, refuse, whole}
 use Rattle.bincode.specs.Sizes.{Sizes}
 use Rattle.fault_log.specs.declared.FaultKind.{FaultKind}
 use Rattle.fault_log.specs.declared.FaultKind.the-variants.{UnexpectedDhbMessageEra, InvalidKeyGenMessageSignature, UnexpectedKeyGenMessage, TooManyKeyGenMessages}
@@ -18,7 +17,7 @@ use Rattle.key_gen_state.specs.KeyGenState.{KeyGenStateOf, CountedOf, countMess
 use Rattle.key_gen_message.specs.KeyGenMessage.{KeyGenMessageOf, SignedKeyGenMsgOf}
 use Rattle.key_gen_message.proofs.MessageLaws.{held-message}
 use Rattle.message_store.specs.MessageStore.{pushed}
-use Rattle.message.specs.Message.{MessageContent, keyGen, signedVote, contentOf, contentHeld, readMessage}
+use Rattle.message.specs.Message.{MessageContent, keyGen, signedVote, contentOf, contentHeld}
 use Rattle.dynamic_honey_badger.specs.declared.Handling.the-variants as handling
 use Rattle.dynamic_honey_badger.specs.Received.{quiet, fault, refusal, handledAs, storedIn, countedIn, keyGenIn, receivedKeyGen, messageEra, receivedNow, receivedContent, received}
 use Rattle.dynamic_honey_badger.specs.State.{StateOf, eraOf, nodesIn, withKeyGen, validSignature}
@@ -74,13 +73,3 @@ module _ (z : Sizes) (s : StateOf) where
       pub content-now : eraOf s ≤ era → receivedContent z s sender m ≡ receivedNow z s sender m
       unfolding receivedContent
       content-now k = rw (le-ltb (eraOf s) (messageEra m) (omega (arith, e)), le-ltb (messageEra m) (eraOf s) (omega (arith, e)))
-
-  -- a message that comes as bytes
-  module _ (sender : ℕ) (bytes : List ℕ) where
-    pub message-refused : (n : ℕ) → whole (readMessage z bytes) bytes ≡ refuse n → received z s sender bytes ≡ handledAs s (refusal n)
-    unfolding received
-    message-refused n e = rw e
-
-    pub message-read : (m : MessageContent) (at : ℕ) → whole (readMessage z bytes) bytes ≡ value m at → received z s sender bytes ≡ receivedContent z s sender m
-    unfolding received
-    message-read m at e = rw e

@@ -5,10 +5,9 @@ ghost use lib.ListN.{length};
 ghost use Rattle.lists.specs.Lists.{found, nothing};
 ghost use Rattle.bincode.specs.Sizes.{base};
 ghost use Rattle.pub_key_map.specs.PubKeyMap.{nodesOf};
-ghost use Rattle.change.specs.Change.{changeOf, stateOf as progressOf};
-ghost use Rattle.votes.specs.Votes.{signedOf};
+ghost use Rattle.change.specs.Change.{stateOf as progressOf};
 ghost use Rattle.network_info.specs.NetworkInfo.{keyOf};
-ghost use Rattle.vote_counter.specs.VoteCounter.{addPending, counterOf, isKey, pendingVotes};
+ghost use Rattle.vote_counter.specs.VoteCounter.{isKey, pendingVotes};
 ghost use Rattle.vote_counter.specs.Answers.{pendingAt, saidPending, NonePendingEmpty};
 ghost use Rattle.key_gen_message.specs.KeyGenMessage as key-gen;
 ghost use Rattle.key_gen_state.specs.KeyGenState as running;
@@ -17,8 +16,9 @@ ghost use Rattle.message_store.specs.MessageStore.{messageAt, saidStored, NoneS
 ghost use Rattle.filled.specs.Numbers.{DueIn};
 ghost use Rattle.joining.specs.declared.StartOutcome.the-variants.{Accepted};
 ghost use Rattle.dynamic_honey_badger.specs.State.{stateOf, inProgressMap, isValidator, candidateNodes, validUnder, partDue, openedHeld, notOpened, started, startedOf, StartRefusedEmpty, joinedBy, numbered, JoinedLent};
-ghost use Rattle.dynamic_honey_badger.specs.OwnVotes.{votedOf, notCast, NotCastKeeps, voteFor, voteForBytes, voteToAdd, voteToRemove};
-ghost use Rattle.dynamic_honey_badger.specs.Received.{handledOf, MessageRefusedKeeps, keyGenIn, receivedKeyGen, receivedContent, received, votedIn, messageEra};
+ghost use Rattle.dynamic_honey_badger.specs.OwnVotes.{votedOf, wasCast, NotCastKeeps, voteForBytes, voteToAdd, voteToRemove};
+ghost use Rattle.dynamic_honey_badger.specs.Received.{handledOf, MessageRefusedKeeps, received, messageEra};
+ghost use Rattle.dynamic_honey_badger.specs.Parts.{WantedFor, signedAs, CastFor, UncastKeeps, addedAs, keyMessage, JudgedKey, JudgedRead};
 ghost use Rattle.dynamic_honey_badger.specs.Asked.{nextEpoch, epochIn, saidNext, someBy, shouldPropose};
 use bincode::Step;
 use change::Change;
@@ -34,8 +34,8 @@ use key_gen_message::SignedKeyGenMsg;
 use key_gen_state::KeyGenState;
 use message::Message;
 use message::MessageKind;
+use message::ReadMessage;
 use message_store::MessageStore;
-use message_store::PushOutcome;
 use message_store::StoredMessage;
 use network_info::NodeKey;
 use params::Params;
@@ -92,6 +92,34 @@ pub enum Handling {
 pub struct Handled {
     pub state: DynamicHoneyBadger,
     pub outcome: Handling,
+}
+
+// What an own vote is to be for; where none is to be cast, the change beside it is empty.
+struct Wanted {
+    outcome: VoteDone,
+    change: Change,
+}
+
+// The vote counter after an own vote, and the vote. Where none was cast it is empty, and the counter is the one given.
+struct CastVote {
+    counter: VoteCounter,
+    outcome: VoteDone,
+    vote: SignedVote,
+}
+
+// What a message changes: nothing, the pending votes, its sender's count, or that and the store.
+enum Task {
+    Nothing,
+    Vote,
+    Count,
+    Store,
+}
+
+// What a message is to do, the outcome of all tasks but a vote, and key generation with the sender counted.
+struct Judged {
+    task: Task,
+    outcome: Handling,
+    counted: KeyGenState,
 }
 
 pub enum NextEpoch {
@@ -188,6 +216,206 @@ fn due_part(
         return 1;
     }
     0
+}
+
+// Whether a vote is cast.
+fn is_cast(outcome: VoteDone) -> bool
+    ensures { λ r. ⌜ r ≡ wasCast outcome ⌝ }
+{
+    match outcome {
+        VoteDone::Cast => true,
+        VoteDone::Nothing => false,
+        VoteDone::Refused(_) => false,
+    }
+}
+
+// What signing a vote says of casting it.
+fn signed_as(outcome: SignOutcome) -> VoteDone
+    ensures { λ r. ⌜ r ≡ signedAs outcome ⌝ }
+{
+    match outcome {
+        SignOutcome::Signed => VoteDone::Cast,
+        SignOutcome::Refused(n) => VoteDone::Refused(n),
+    }
+}
+
+// No vote is to be cast.
+fn no_change(outcome: VoteDone) -> Wanted
+    ensures { λ r. ⌜ r .outcome ≡ outcome ⌝ }
+{
+    Wanted {
+        outcome,
+        change: Change::node_change(PubKeyMap::empty()),
+    }
+}
+
+// A change that comes as bytes: rows 2 and 3 first; a non-validator's does nothing.
+fn wanted_from(map: PubKeyMap, our_id: u32, bytes: &[u8]) -> Wanted
+    ensures { λ r. ⌜ WantedFor base (nodesOf map) «our_id» (λ s. voteForBytes base s (now (bytes .entry))) r ⌝ }
+{
+    let r = change::read_whole_change(bytes);
+    let step = r.step;
+    let change = r.change;
+    let Step::Next(_) = step else {
+        return no_change(VoteDone::Refused(step.number()));
+    };
+    if !network_info::is_member(map, our_id) {
+        return no_change(VoteDone::Nothing);
+    }
+    Wanted {
+        outcome: VoteDone::Cast,
+        change,
+    }
+}
+
+// The map with a node, or with another key of one: key 0 is 2, whoever calls; then 13.
+fn wanted_with(map: PubKeyMap, our_id: u32, id: u32, key: u64) -> Wanted
+    ensures { λ r. ⌜ WantedFor base (nodesOf map) «our_id» (λ s. voteToAdd base s id key) r ⌝ }
+{
+    if key == 0 {
+        return no_change(VoteDone::Refused(2));
+    }
+    if network_info::is_member(map, our_id) {
+        if node_change::is_full_for(map, id) {
+            return no_change(VoteDone::Refused(13));
+        }
+        let next = node_change::with_node(map, Node::new(id, key));
+        return Wanted {
+            outcome: VoteDone::Cast,
+            change: Change::node_change(next),
+        };
+    }
+    no_change(VoteDone::Nothing)
+}
+
+// The map without a node; without such a node it is the current map.
+fn wanted_without(map: PubKeyMap, our_id: u32, id: u32) -> Wanted
+    ensures { λ r. ⌜ WantedFor base (nodesOf map) «our_id» (λ s. voteToRemove base s id) r ⌝ }
+{
+    if network_info::is_member(map, our_id) {
+        let next = node_change::without_node(map, id);
+        return Wanted {
+            outcome: VoteDone::Cast,
+            change: Change::node_change(next),
+        };
+    }
+    no_change(VoteDone::Nothing)
+}
+
+// Casts an own vote on the counter alone: the rest of the state is large, and stays where it is.
+fn cast(counter: VoteCounter, w: Wanted) -> CastVote
+    ensures { λ r. ⌜ CastFor base counter w r × UncastKeeps r counter ⌝ }
+{
+    let wanted = w.outcome;
+    let change = w.change;
+    if is_cast(wanted) {
+        let r = counter.sign_vote_for(change);
+        let signed = r.outcome;
+        let next = r.counter;
+        let vote = r.vote;
+        return CastVote {
+            counter: next,
+            outcome: signed_as(signed),
+            vote,
+        };
+    }
+    CastVote {
+        counter,
+        outcome: wanted,
+        vote: SignedVote::empty(),
+    }
+}
+
+// What adding a received vote says of its message.
+fn added_as(outcome: VoteOutcome) -> Handling
+    ensures { λ r. ⌜ r ≡ addedAs outcome ⌝ }
+{
+    match outcome {
+        VoteOutcome::Stored => Handling::Quiet,
+        VoteOutcome::Nothing => Handling::Quiet,
+        VoteOutcome::Faulty(k) => Handling::Faulty(k),
+    }
+}
+
+// A key message under its sender's id.
+fn key_message(sender: u32, m: Message) -> SignedKeyGenMsg
+    ensures { λ r. ⌜ key-gen.signedOf r ≡ keyMessage sender m ⌝ }
+{
+    let message = m.message;
+    SignedKeyGenMsg {
+        era: m.era,
+        id: sender,
+        message,
+        sig: m.sig,
+    }
+}
+
+// What a message is judged to do.
+fn judged_as(task: Task, outcome: Handling, counted: KeyGenState) -> Judged
+    ensures { λ r. ⌜ r ≡ record { task = task; outcome = outcome; counted = counted } ⌝ }
+{
+    Judged {
+        task,
+        outcome,
+        counted,
+    }
+}
+
+// A key message of the current era: its signature, running key generation, its sender's count, the store.
+fn judge_key(m: Message, sender: u32, map: PubKeyMap, state: KeyGenState, held: usize) -> Judged
+    ensures { λ r. ⌜ JudgedKey base (nodesOf map) (running.stateOf state) held sender m r ⌝ }
+{
+    if !verify_signature(map, state, sender, m.sig) {
+        let fault = Handling::Faulty(FaultKind::InvalidKeyGenMessageSignature);
+        return judged_as(Task::Nothing, fault, state);
+    }
+    if !state.running {
+        let fault = Handling::Faulty(FaultKind::UnexpectedKeyGenMessage);
+        return judged_as(Task::Nothing, fault, state);
+    }
+    let key_gen = state.key_gen;
+    let candidate = key_gen.pub_keys;
+    let c = state.count_messages(map, sender);
+    let counted = c.state;
+    if candidate.len() + 1 < c.count as usize {
+        let fault = Handling::Faulty(FaultKind::TooManyKeyGenMessages);
+        return judged_as(Task::Count, fault, counted);
+    }
+    if held < MessageStore::LIMIT {
+        return judged_as(Task::Store, Handling::Quiet, counted);
+    }
+    judged_as(Task::Nothing, Handling::Refused(12), state)
+}
+
+// A message, if it was read, by small parts of the state, since the whole is large: its era first.
+fn judge(
+    r: ReadMessage,
+    sender: u32,
+    era: u64,
+    map: PubKeyMap,
+    state: KeyGenState,
+    held: usize,
+) -> Judged
+    ensures { λ j. ⌜ JudgedRead base era (nodesOf map) (running.stateOf state) held sender r j ⌝ }
+{
+    let step = r.step;
+    let m = r.message;
+    let Step::Next(_) = step else {
+        return judged_as(Task::Nothing, Handling::Refused(step.number()), state);
+    };
+    let sent = message_era(m);
+    if era < sent {
+        let fault = Handling::Faulty(FaultKind::UnexpectedDhbMessageEra);
+        return judged_as(Task::Nothing, fault, state);
+    }
+    if sent < era {
+        return judged_as(Task::Nothing, Handling::Quiet, state);
+    }
+    let kind = m.kind;
+    match kind {
+        MessageKind::KeyGen => judge_key(m, sender, map, state, held),
+        MessageKind::SignedVote => judged_as(Task::Vote, Handling::Quiet, state),
+    }
 }
 
 impl DynamicHoneyBadger {
@@ -313,174 +541,99 @@ impl DynamicHoneyBadger {
         network_info::is_member(map, counter.our_id)
     }
 
-    // An own vote for a change; a non-validator's does nothing.
-    fn vote(mut self, change: Change) -> Voted
-        ensures { λ r. ⌜ (votedOf r ≡ voteFor base (stateOf self) (changeOf change)) × NotCastKeeps r self ⌝ }
+    // An own vote for a change that comes as bytes.
+    pub fn vote_for(mut self, change: &[u8]) -> Voted
+        ensures { λ r. ⌜ (votedOf r ≡ voteForBytes base (stateOf self) (now (change .entry))) × NotCastKeeps r self ⌝ }
     {
-        if !self.is_validator() {
-            return no_vote(self, VoteDone::Nothing);
-        }
         let counter = self.vote_counter;
-        let r = counter.sign_vote_for(change);
+        let map = counter.pub_keys;
+        let r = cast(counter, wanted_from(map, counter.our_id, change));
         let next = r.counter;
         let outcome = r.outcome;
         let vote = r.vote;
-        match outcome {
-            SignOutcome::Signed => {
-                self.vote_counter = next;
-                Voted {
-                    state: self,
-                    outcome: VoteDone::Cast,
-                    vote,
-                }
-            }
-            SignOutcome::Refused(n) => no_vote(self, VoteDone::Refused(n)),
+        self.vote_counter = next;
+        Voted {
+            state: self,
+            outcome,
+            vote,
         }
-    }
-
-    // An own vote for a change that comes as bytes.
-    pub fn vote_for(self, change: &[u8]) -> Voted
-        ensures { λ r. ⌜ (votedOf r ≡ voteForBytes base (stateOf self) (now (change .entry))) × NotCastKeeps r self ⌝ }
-    {
-        let r = change::read_whole_change(change);
-        let step = r.step;
-        let read = r.change;
-        let Step::Next(_) = step else {
-            return no_vote(self, VoteDone::Refused(step.number()));
-        };
-        self.vote(read)
     }
 
     // An own vote to add a node, or to give one another key.
-    pub fn vote_to_add(self, id: u32, key: u64) -> Voted
+    pub fn vote_to_add(mut self, id: u32, key: u64) -> Voted
         ensures { λ r. ⌜ (votedOf r ≡ voteToAdd base (stateOf self) id key) × NotCastKeeps r self ⌝ }
     {
-        if key == 0 {
-            return no_vote(self, VoteDone::Refused(2));
+        let counter = self.vote_counter;
+        let map = counter.pub_keys;
+        let r = cast(counter, wanted_with(map, counter.our_id, id, key));
+        let next = r.counter;
+        let outcome = r.outcome;
+        let vote = r.vote;
+        self.vote_counter = next;
+        Voted {
+            state: self,
+            outcome,
+            vote,
         }
-        if self.is_validator() {
-            let counter = self.vote_counter;
-            let map = counter.pub_keys;
-            if node_change::is_full_for(map, id) {
-                return no_vote(self, VoteDone::Refused(13));
-            }
-            let wanted = node_change::with_node(map, Node::new(id, key));
-            return self.vote(Change::node_change(wanted));
-        }
-        no_vote(self, VoteDone::Nothing)
     }
 
     // An own vote to remove a node; without such a node it is a vote for the current map.
-    pub fn vote_to_remove(self, id: u32) -> Voted
+    pub fn vote_to_remove(mut self, id: u32) -> Voted
         ensures { λ r. ⌜ (votedOf r ≡ voteToRemove base (stateOf self) id) × NotCastKeeps r self ⌝ }
     {
         let counter = self.vote_counter;
         let map = counter.pub_keys;
-        let wanted = node_change::without_node(map, id);
-        self.vote(Change::node_change(wanted))
-    }
-
-    // A vote that was received.
-    fn handle_vote(mut self, x: SignedVote) -> Handled
-        ensures { λ r. ⌜ (handledOf r ≡ votedIn (stateOf self) (addPending base (counterOf (self .«vote_counter»)) (signedOf x))) × MessageRefusedKeeps r self ⌝ }
-    {
-        let counter = self.vote_counter;
-        let r = counter.add_pending_vote(x);
+        let r = cast(counter, wanted_without(map, counter.our_id, id));
         let next = r.counter;
         let outcome = r.outcome;
+        let vote = r.vote;
         self.vote_counter = next;
-        match outcome {
-            VoteOutcome::Stored => done(self, Handling::Quiet),
-            VoteOutcome::Nothing => done(self, Handling::Quiet),
-            VoteOutcome::Faulty(k) => done(self, Handling::Faulty(k)),
+        Voted {
+            state: self,
+            outcome,
+            vote,
         }
     }
 
-    // A key message under a valid signature: running key generation, its sender's count, the store.
-    fn store_key_gen_message(mut self, m: SignedKeyGenMsg) -> Handled
-        ensures { λ r. ⌜ (handledOf r ≡ keyGenIn base (stateOf self) (key-gen.signedOf m) (running.stateOf (self .«key_gen_state»))) × MessageRefusedKeeps r self ⌝ }
-    {
-        let state = self.key_gen_state;
-        if !state.running {
-            return done(self, Handling::Faulty(FaultKind::UnexpectedKeyGenMessage));
-        }
-        let counter = self.vote_counter;
-        let map = counter.pub_keys;
-        let key_gen = state.key_gen;
-        let candidate = key_gen.pub_keys;
-        let c = state.count_messages(map, m.id);
-        let counted = c.state;
-        if candidate.len() + 1 < c.count as usize {
-            self.key_gen_state = counted;
-            return done(self, Handling::Faulty(FaultKind::TooManyKeyGenMessages));
-        }
-        let store = self.store;
-        let p = store.push(m);
-        let next = p.store;
-        let outcome = p.outcome;
-        match outcome {
-            PushOutcome::Stored => {
-                self.key_gen_state = counted;
-                self.store = next;
-                done(self, Handling::Quiet)
-            }
-            PushOutcome::Refused(n) => done(self, Handling::Refused(n)),
-        }
-    }
-
-    // A key message that was received, with its sender as signer: its signature first.
-    fn handle_key_gen_message(self, m: SignedKeyGenMsg) -> Handled
-        ensures { λ r. ⌜ (handledOf r ≡ receivedKeyGen base (stateOf self) (key-gen.signedOf m)) × MessageRefusedKeeps r self ⌝ }
-    {
-        let counter = self.vote_counter;
-        let map = counter.pub_keys;
-        let state = self.key_gen_state;
-        if verify_signature(map, state, m.id, m.sig) {
-            return self.store_key_gen_message(m);
-        }
-        done(
-            self,
-            Handling::Faulty(FaultKind::InvalidKeyGenMessageSignature),
-        )
-    }
-
-    // A message of a sender: its era first.
-    fn handle(self, sender: u32, m: Message) -> Handled
-        ensures { λ r. ⌜ (handledOf r ≡ receivedContent base (stateOf self) sender (contentOf m)) × MessageRefusedKeeps r self ⌝ }
-    {
-        let counter = self.vote_counter;
-        let era = message_era(m);
-        if counter.era < era {
-            return done(self, Handling::Faulty(FaultKind::UnexpectedDhbMessageEra));
-        }
-        if era < counter.era {
-            return done(self, Handling::Quiet);
-        }
-        let kind = m.kind;
-        let message = m.message;
-        let vote = m.vote;
-        match kind {
-            MessageKind::KeyGen => self.handle_key_gen_message(SignedKeyGenMsg {
-                era: m.era,
-                id: sender,
-                message,
-                sig: m.sig,
-            }),
-            MessageKind::SignedVote => self.handle_vote(vote),
-        }
-    }
-
-    // A message that a node sent, as bytes.
-    pub fn handle_message(self, sender: u32, message: &[u8]) -> Handled
+    // A message that a node sent, as bytes: judged by small parts, and then only what it changes is touched.
+    pub fn handle_message(mut self, sender: u32, message: &[u8]) -> Handled
         ensures { λ r. ⌜ (handledOf r ≡ received base (stateOf self) sender (now (message .entry))) × MessageRefusedKeeps r self ⌝ }
     {
         let r = message::read_whole_message(message);
-        let step = r.step;
-        let read = r.message;
-        let Step::Next(_) = step else {
-            return done(self, Handling::Refused(step.number()));
-        };
-        self.handle(sender, read)
+        let m = r.message;
+        let counter = self.vote_counter;
+        let state = self.key_gen_state;
+        let store = self.store;
+        let j = judge(r, sender, counter.era, counter.pub_keys, state, store.count);
+        let task = j.task;
+        let mut outcome = j.outcome;
+        match task {
+            Task::Nothing => {}
+            Task::Vote => {
+                let counter = self.vote_counter;
+                let a = counter.add_pending_vote(m.vote);
+                let next = a.counter;
+                let added = a.outcome;
+                self.vote_counter = next;
+                outcome = added_as(added);
+            }
+            Task::Count => {
+                let counted = j.counted;
+                self.key_gen_state = counted;
+            }
+            Task::Store => {
+                let counted = j.counted;
+                self.key_gen_state = counted;
+                let store = self.store;
+                let p = store.push(key_message(sender, m));
+                let next = p.store;
+                self.store = next;
+            }
+        }
+        Handled {
+            state: self,
+            outcome,
+        }
     }
 
     // The stored message at a place, 0 first, in order of arrival.
@@ -561,21 +714,4 @@ pub fn epoch_in(era: u64, inner: u64) -> NextEpoch
         return NextEpoch::Refused(5);
     }
     NextEpoch::Epoch(era + inner)
-}
-
-// The state as given, with no vote.
-fn no_vote(state: DynamicHoneyBadger, outcome: VoteDone) -> Voted
-    ensures { λ r. ⌜ r ≡ notCast state outcome ⌝ }
-{
-    Voted {
-        state,
-        outcome,
-        vote: SignedVote::empty(),
-    }
-}
-
-fn done(state: DynamicHoneyBadger, outcome: Handling) -> Handled
-    ensures { λ r. ⌜ r ≡ record { state = state; outcome = outcome } ⌝ }
-{
-    Handled { state, outcome }
 }

@@ -1,27 +1,21 @@
 use borrow.Author.Needs.{needs}
-use mathlib.Core.Path.{ap, _∙_}
-use Rattle.bincode.specs.Sizes.{base}
-use Rattle.change.specs.Change.{nodeChange}
-use Rattle.dynamic_honey_badger.specs.OwnVotes.{voteFor, voteToRemove}
+use mathlib.Core.Path.{refl, _∙_}
 use Rattle.dynamic_honey_badger.specs.State.{stateOf}
+use Rattle.dynamic_honey_badger.proofs.PartsLaws.{vote-kept}
 use Rattle.dynamic_honey_badger.proofs.DynamicHoneyBadger.vote_to_remove.Statement.{statement}
 use Rattle.dynamic_honey_badger.proofs.DynamicHoneyBadger.vote_to_remove.Tie as tie
 
-without-node-requires : tie.Need-without-node-requires
-without-node-requires c κs = search needs
+wanted-without-requires : tie.Need-wanted-without-requires
+wanted-without-requires c κs = search needs
 
-node-change-requires : tie.Need-node-change-requires
-node-change-requires c κs = search needs
-
-vote-requires : tie.Need-vote-requires
-vote-requires c κs = search needs
+cast-requires : tie.Need-cast-requires
+cast-requires c κs = search needs
 
 returns : tie.Need-returns
-unfolding voteToRemove
 returns c =
-    let s = stateOf (c .before .before .before .before .before .args .self) in
-    (c .vote .ensures .0 ∙ ap (voteFor base s) (c .before .node-change .ensures ∙ ap nodeChange (c .before .before .without-node .ensures)), c .vote .ensures .1)
+    let d = c .before .before .before .before .before .before .args .self in
+    let r = c .before .before .cast in
+    (r .ensures .0 (stateOf d) refl ∙ c .before .before .before .wanted-without .ensures (stateOf d) refl refl, vote-kept d (r .result) (r .ensures .1))
 
 pub vote-to-remove-spec : {M : Type 1} → statement M
-vote-to-remove-spec =
-    tie.close (tie.spec without-node-requires node-change-requires vote-requires returns)
+vote-to-remove-spec = tie.close (tie.spec wanted-without-requires cast-requires returns)
