@@ -10,7 +10,8 @@ ghost use Rattle.bincode.specs.Stands.{concat};
 ghost use Rattle.bincode.specs.Sizes.{base};
 ghost use Rattle.bincode.specs.Writing.{written, writtenTo};
 ghost use Rattle.pub_key_map.specs.PubKeyMap.{nodesOf};
-ghost use Rattle.change.specs.Change.{nodeChange, encryptionSchedule, none, inProgress, complete, changeOf, changeHeld, stateOf, stateHeld, sameChange, readChange, changeAnswer, changeBytes, readState, stateAnswer, stateBytes};
+ghost use Rattle.change.specs.Change.{nodeChange, encryptionSchedule, none, inProgress, complete, changeOf, changeHeld, stateOf};
+ghost use Rattle.change.specs.Change.{stateHeld, sameChange, readChange, changeAnswer, changeBytes, readState, stateAnswer, stateBytes};
 use bincode::ReadU32;
 use bincode::Step;
 use honey_badger::EncryptionSchedule;
@@ -279,7 +280,8 @@ pub fn write_change(buf: &mut [u8], at: usize, c: Change) -> usize
 }
 
 fn write_node_change(buf: &mut [u8], at: usize, map: PubKeyMap) -> usize
-    ensures { λ r. ⌜ (now (buf .exit) ≡ written (now (buf .entry)) at (changeBytes fixed (nodeChange (nodesOf map)))) × (r ≡ writtenTo (now (buf .entry)) at (changeBytes fixed (nodeChange (nodesOf map)))) ⌝ }
+    ensures { λ r. ⌜ (now (buf .exit) ≡ written (now (buf .entry)) at (changeBytes fixed (nodeChange (nodesOf map))))
+        × (r ≡ writtenTo (now (buf .entry)) at (changeBytes fixed (nodeChange (nodesOf map)))) ⌝ }
 {
     if bincode::room(buf.len(), at, 4 + pub_key_map::map_size(map)) {
         let c = bincode::write_u32(buf, at, 0);
@@ -315,7 +317,8 @@ pub fn state_size(x: ChangeState) -> usize
 
 // A tag with a change behind it.
 fn write_tagged(buf: &mut [u8], at: usize, tag: u32, change: Change) -> usize
-    ensures { λ r. ⌜ (now (buf .exit) ≡ written (now (buf .entry)) at (concat (bytesOf 4 tag ∷ changeBytes fixed (changeOf change) ∷ []))) × (r ≡ writtenTo (now (buf .entry)) at (concat (bytesOf 4 tag ∷ changeBytes fixed (changeOf change) ∷ []))) ⌝ }
+    ensures { λ r. ⌜ (now (buf .exit) ≡ written (now (buf .entry)) at (concat (bytesOf 4 tag ∷ changeBytes fixed (changeOf change) ∷ [])))
+        × (r ≡ writtenTo (now (buf .entry)) at (concat (bytesOf 4 tag ∷ changeBytes fixed (changeOf change) ∷ []))) ⌝ }
 {
     if bincode::room(buf.len(), at, 4 + change_size(change)) {
         let c = bincode::write_u32(buf, at, tag);

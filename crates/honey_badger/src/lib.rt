@@ -190,7 +190,8 @@ pub fn schedule_size(x: EncryptionSchedule) -> usize
 }
 
 fn write_every_nth(buf: &mut [u8], at: usize, n: u32) -> usize
-    ensures { λ r. ⌜ (now (buf .exit) ≡ written (now (buf .entry)) at (scheduleBytes fixed (EncryptionSchedule.EveryNthEpoch n))) × (r ≡ writtenTo (now (buf .entry)) at (scheduleBytes fixed (EncryptionSchedule.EveryNthEpoch n))) ⌝ }
+    ensures { λ r. ⌜ (now (buf .exit) ≡ written (now (buf .entry)) at (scheduleBytes fixed (EncryptionSchedule.EveryNthEpoch n)))
+        × (r ≡ writtenTo (now (buf .entry)) at (scheduleBytes fixed (EncryptionSchedule.EveryNthEpoch n))) ⌝ }
 {
     if bincode::room(buf.len(), at, 8) {
         let c = bincode::write_u32(buf, at, 2);
@@ -201,7 +202,8 @@ fn write_every_nth(buf: &mut [u8], at: usize, n: u32) -> usize
 }
 
 fn write_tick_tock(buf: &mut [u8], at: usize, on: u32, off: u32) -> usize
-    ensures { λ r. ⌜ (now (buf .exit) ≡ written (now (buf .entry)) at (scheduleBytes fixed (EncryptionSchedule.TickTock on off))) × (r ≡ writtenTo (now (buf .entry)) at (scheduleBytes fixed (EncryptionSchedule.TickTock on off))) ⌝ }
+    ensures { λ r. ⌜ (now (buf .exit) ≡ written (now (buf .entry)) at (scheduleBytes fixed (EncryptionSchedule.TickTock on off)))
+        × (r ≡ writtenTo (now (buf .entry)) at (scheduleBytes fixed (EncryptionSchedule.TickTock on off))) ⌝ }
 {
     if bincode::room(buf.len(), at, 12) {
         let c = bincode::write_u32(buf, at, 3);

@@ -5,7 +5,7 @@ use mathlib.Core.Path.{_≡_, refl, sym, ap, _∙_}
 use mathlib.Core.List.{List, [], _∷_, _++_, map}
 use native.Mathlib.Omega.{arith}
 use native.Mathlib.Numerals.{add-one}
-use lib.ListN.{length, take, drop, getD, set, length-map}
+use lib.ListN.{length, take, getD, set, length-map}
 use lib.Seq.{length-take-le, take-at, take-take, take-suc-set}
 use Rattle.fault_log.specs.declared.Fault.{Fault}
 use Rattle.filled.specs.Filled.{filled}

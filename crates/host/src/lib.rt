@@ -1,17 +1,13 @@
 // The batch call with a list of fault records that the host lends. A refused call writes nothing.
 ghost use mathlib.Core.Path.{_≡_};
-ghost use mathlib.Core.List.{map};
 ghost use Prim.Native.Nat.{_<_, _≤_};
 ghost use lib.ListN.{length, getD, set, take};
 ghost use Rattle.bincode.specs.Sizes.{base};
 ghost use Rattle.filled.specs.Filled.{filled};
-ghost use Rattle.process_output.specs.Process.{processedOf};
-ghost use Rattle.process_batch.specs.Lent.{faultsIn, FaultsFilled, DueFilled};
-ghost use Rattle.host.specs.Records.{recordOf, recordsIn, noRecord, pairs, placesCall, recordsCall, BatchAnswered};
+ghost use Rattle.host.specs.Records.{recordsIn, noRecord, pairs, FirstDone, FaultsDone, RecordsDone};
 use dynamic_honey_badger::DynamicHoneyBadger;
 use fault_log::FaultLog;
-use process_output::BatchOutcome;
-use process_output::Processed;
+use process_batch::Processed;
 
 // A faulty node, and the number of what it is blamed for.
 pub struct FaultRecord {
@@ -59,18 +55,6 @@ fn record_at(records: FaultRecords, i: usize) -> FaultRecord
     records.items[i]
 }
 
-// How many faults a report has; a refused call has none.
-fn fault_count(r: Processed) -> usize
-    ensures { λ n. ⌜ (n ≡ length (faultsIn (processedOf r .answer))) × (n ≤ base .faults) ⌝ }
-{
-    let outcome = r.outcome;
-    let faults = r.faults;
-    match outcome {
-        BatchOutcome::Refused(_) => 0,
-        BatchOutcome::Reported => faults.len(),
-    }
-}
-
 // The first records of two lists of numbers.
 fn paired(ids: &[u32], kinds: &[u8], n: usize) -> FaultRecords
     requires { ⌜ (n ≤ length (now ids)) × (n ≤ length (now kinds)) × (n ≤ base .faults) ⌝ }
@@ -105,12 +89,10 @@ fn process_first(
     due_eras: &mut [u64],
 ) -> Processed
     requires { ⌜ (places ≤ length (now ids)) × (places ≤ length (now kinds)) ⌝ }
-    ensures { λ r. ⌜ BatchAnswered r state
-        (placesCall inner (now (batch .entry)) (now (verdicts .entry)) places (now («due_kinds» .entry)) (now («due_indices» .entry)) (now («due_eras» .entry)))
-        × FaultsFilled (processedOf r .answer)
-        (take places (now (ids .entry))) (take places (now (ids .exit))) (take places (now (kinds .entry))) (take places (now (kinds .exit)))
-        × DueFilled (processedOf r .answer)
-        (now («due_kinds» .entry)) (now («due_kinds» .exit)) (now («due_indices» .entry)) (now («due_indices» .exit)) (now («due_eras» .entry)) (now («due_eras» .exit)) ⌝ }
+    ensures { λ r. ⌜ FirstDone state inner (now (batch .entry)) (now (verdicts .entry)) places (now (ids .entry)) (now (kinds .entry))
+        (record { kinds = now («due_kinds» .entry); indices = now («due_indices» .entry); eras = now («due_eras» .entry) })
+        r (now (ids .exit)) (now (kinds .exit))
+        (record { kinds = now («due_kinds» .exit); indices = now («due_indices» .exit); eras = now («due_eras» .exit) }) ⌝ }
 {
     process_batch::process_batch(
         state,
@@ -136,11 +118,10 @@ fn process_faults(
     due_indices: &mut [u64],
     due_eras: &mut [u64],
 ) -> Answered
-    ensures { λ r. ⌜ BatchAnswered (r .processed) state
-        (placesCall inner (now (batch .entry)) (now (verdicts .entry)) «fault_places» (now («due_kinds» .entry)) (now («due_indices» .entry)) (now («due_eras» .entry)))
-        × (recordsIn (r .faults) ≡ map recordOf (faultsIn (processedOf (r .processed) .answer)))
-        × DueFilled (processedOf (r .processed) .answer)
-        (now («due_kinds» .entry)) (now («due_kinds» .exit)) (now («due_indices» .entry)) (now («due_indices» .exit)) (now («due_eras» .entry)) (now («due_eras» .exit)) ⌝ }
+    ensures { λ r. ⌜ FaultsDone state inner (now (batch .entry)) (now (verdicts .entry)) «fault_places»
+        (record { kinds = now («due_kinds» .entry); indices = now («due_indices» .entry); eras = now («due_eras» .entry) })
+        r
+        (record { kinds = now («due_kinds» .exit); indices = now («due_indices» .exit); eras = now («due_eras» .exit) }) ⌝ }
 {
     let mut ids = [0u32; FaultLog::LIMIT];
     let mut kinds = [0u8; FaultLog::LIMIT];
@@ -157,7 +138,7 @@ fn process_faults(
         due_indices,
         due_eras,
     );
-    let n = fault_count(processed);
+    let n = processed.faults;
     let faults = paired(&ids, &kinds, n);
     Answered { processed, faults }
 }
@@ -199,11 +180,10 @@ pub fn process_batch_records(
     due_indices: &mut [u64],
     due_eras: &mut [u64],
 ) -> Processed
-    ensures { λ r. ⌜ BatchAnswered r state
-        (recordsCall inner (now (batch .entry)) (now (verdicts .entry)) (now (faults .entry)) (now («due_kinds» .entry)) (now («due_indices» .entry)) (now («due_eras» .entry)))
-        × (now (faults .exit) ≡ filled (map recordOf (faultsIn (processedOf r .answer))) (now (faults .entry)))
-        × DueFilled (processedOf r .answer)
-        (now («due_kinds» .entry)) (now («due_kinds» .exit)) (now («due_indices» .entry)) (now («due_indices» .exit)) (now («due_eras» .entry)) (now («due_eras» .exit)) ⌝ }
+    ensures { λ r. ⌜ RecordsDone state inner (now (batch .entry)) (now (verdicts .entry)) (now (faults .entry))
+        (record { kinds = now («due_kinds» .entry); indices = now («due_indices» .entry); eras = now («due_eras» .entry) })
+        r (now (faults .exit))
+        (record { kinds = now («due_kinds» .exit); indices = now («due_indices» .exit); eras = now («due_eras» .exit) }) ⌝ }
 {
     let n = faults.len();
     let answered = process_faults(

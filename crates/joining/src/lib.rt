@@ -2,7 +2,8 @@
 ghost use mathlib.Core.Path.{_≡_};
 ghost use Rattle.bincode.specs.Sizes.{base};
 ghost use Rattle.join_plan.specs.JoinPlan.{planOf};
-ghost use Rattle.joining.specs.Starting.{saidStart, joiningOf, noJoining, JoiningRefusedEmpty, joinChecked, joinPlan, joinRow8, joinRow10, startingOf, noStarting, StartingRefusedEmpty, startChecked};
+ghost use Rattle.joining.specs.Starting.{saidStart, joiningOf, noJoining, JoiningRefusedEmpty, joinChecked, joinPlan};
+ghost use Rattle.joining.specs.Starting.{joinRow8, joinRow10, startingOf, noStarting, StartingRefusedEmpty, startChecked};
 use bincode::Step;
 use change::ChangeKind;
 use change::Progress;

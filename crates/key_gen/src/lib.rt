@@ -9,7 +9,8 @@ ghost use Rattle.util.specs.MaxFaulty.{maxFaulty};
 ghost use Rattle.network_info.specs.NetworkInfo.{isMember};
 ghost use Rattle.pub_key_map.specs.PubKeyMap.{nodesOf};
 ghost use Rattle.sync_key_gen.specs.SyncKeyGen.{partOf, ackOf};
-ghost use Rattle.key_gen.specs.KeyGen.{ProposalOf, indices, proposalAt, byProposer, handled, acked, recordPart, recordAck, ackOfIndex, keyGenOf, freshHeld, noProposal, rowEffect, valueEffect, handlePart, handleAck, countComplete, nodeReady, enough, ready, saidOutcome};
+ghost use Rattle.key_gen.specs.KeyGen.{ProposalOf, indices, proposalAt, byProposer, handled, acked, recordPart, recordAck, ackOfIndex, keyGenOf};
+ghost use Rattle.key_gen.specs.KeyGen.{freshHeld, noProposal, rowEffect, valueEffect, handlePart, handleAck, countComplete, nodeReady, enough, ready, saidOutcome};
 use fault_log::AckFault;
 use fault_log::FaultKind;
 use fault_log::PartFault;
@@ -268,7 +269,8 @@ impl KeyGen {
     // A new ack of the node with index j for the recorded part of the proposer with index i: it counts before its verdict.
     fn record_ack(mut self, i: usize, j: usize, verdict: u8) -> KeyHandled
         requires { ⌜ (i < base .nodes) × (j < base .nodes) ⌝ }
-        ensures { λ r. ⌜ ((q : ProposalOf) → lookup byProposer (keyGenOf self .parts) i ≡ found q → handled (keyGenOf (r .«key_gen»)) (saidOutcome (r .outcome)) ≡ recordAck (keyGenOf self) q j verdict) ⌝ }
+        ensures { λ r. ⌜ ((q : ProposalOf) → lookup byProposer (keyGenOf self .parts) i ≡ found q
+            → handled (keyGenOf (r .«key_gen»)) (saidOutcome (r .outcome)) ≡ recordAck (keyGenOf self) q j verdict) ⌝ }
     {
         let observes = self.observes();
         let p = self.proposals[i];

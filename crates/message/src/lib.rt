@@ -153,7 +153,8 @@ pub fn read_whole_message(s: &[u8]) -> ReadMessage
 }
 
 fn write_key_gen(buf: &mut [u8], at: usize, era: u64, message: KeyGenMessage, sig: u64) -> usize
-    ensures { λ r. ⌜ (now (buf .exit) ≡ written (now (buf .entry)) at (contentBytes (keyGen era (messageOf message) sig))) × (r ≡ writtenTo (now (buf .entry)) at (contentBytes (keyGen era (messageOf message) sig))) ⌝ }
+    ensures { λ r. ⌜ (now (buf .exit) ≡ written (now (buf .entry)) at (contentBytes (keyGen era (messageOf message) sig)))
+        × (r ≡ writtenTo (now (buf .entry)) at (contentBytes (keyGen era (messageOf message) sig))) ⌝ }
 {
     if bincode::room(buf.len(), at, 20 + key_gen_message::message_size(message)) {
         let b = bincode::write_u32(buf, at, 1);
@@ -166,7 +167,8 @@ fn write_key_gen(buf: &mut [u8], at: usize, era: u64, message: KeyGenMessage, si
 }
 
 fn write_vote(buf: &mut [u8], at: usize, vote: SignedVote) -> usize
-    ensures { λ r. ⌜ (now (buf .exit) ≡ written (now (buf .entry)) at (contentBytes (signedVote (signedOf vote)))) × (r ≡ writtenTo (now (buf .entry)) at (contentBytes (signedVote (signedOf vote)))) ⌝ }
+    ensures { λ r. ⌜ (now (buf .exit) ≡ written (now (buf .entry)) at (contentBytes (signedVote (signedOf vote))))
+        × (r ≡ writtenTo (now (buf .entry)) at (contentBytes (signedVote (signedOf vote)))) ⌝ }
 {
     if bincode::room(buf.len(), at, 4 + votes::signed_vote_size(vote)) {
         let b = bincode::write_u32(buf, at, 2);

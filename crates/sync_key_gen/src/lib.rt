@@ -6,7 +6,8 @@ ghost use lib.ListN.{length};
 ghost use Rattle.bincode.specs.Read.{refuse};
 ghost use Rattle.bincode.specs.Sizes.{base};
 ghost use Rattle.bincode.specs.Writing.{written, writtenTo};
-ghost use Rattle.sync_key_gen.specs.SyncKeyGen.{handlesOf, handlesHeld, sameHandles, readHandles, handlesAnswer, handlesBytes, partOf, readPart, partAnswer, partBytes, ackOf, readAck, ackAnswer, ackBytes};
+ghost use Rattle.sync_key_gen.specs.SyncKeyGen.{handlesOf, handlesHeld, sameHandles, readHandles, handlesAnswer, handlesBytes, partOf};
+ghost use Rattle.sync_key_gen.specs.SyncKeyGen.{readPart, partAnswer, partBytes, ackOf, readAck, ackAnswer, ackBytes};
 use bincode::ReadU64;
 use bincode::Step;
 
@@ -216,7 +217,8 @@ pub fn write_handles(buf: &mut [u8], at: usize, h: Handles) -> usize
 
 // A number with handles behind it, as a part and an ack both are.
 fn write_headed(buf: &mut [u8], at: usize, head: u64, h: Handles) -> usize
-    ensures { λ r. ⌜ (now (buf .exit) ≡ written (now (buf .entry)) at (partBytes (record { commit = head; rows = handlesOf h }))) × (r ≡ writtenTo (now (buf .entry)) at (partBytes (record { commit = head; rows = handlesOf h }))) ⌝ }
+    ensures { λ r. ⌜ (now (buf .exit) ≡ written (now (buf .entry)) at (partBytes (record { commit = head; rows = handlesOf h })))
+        × (r ≡ writtenTo (now (buf .entry)) at (partBytes (record { commit = head; rows = handlesOf h }))) ⌝ }
 {
     if bincode::room(buf.len(), at, 8 + handles_size(h)) {
         let c = bincode::write_u64(buf, at, head);

@@ -9,8 +9,6 @@ use denote.Ref.{now}
 use Rattle.host.proofs.PairLaws.{PairedTo, paired-start, paired-turn}
 use Rattle.host.proofs.paired.Statement.{statement}
 use Rattle.host.proofs.paired.Tie as tie
-use Rattle.host.proofs.paired.Reads as reads
-use Rattle.host.proofs.paired.Lts as lts
 
 abbrev Inv-loop : tie.InvT-loop
 Inv-loop ids kinds n items₀ i₀ items i = PairedTo ids kinds i items × (i ≤ n) × (length items ≡ base .faults)

@@ -2,15 +2,9 @@ use borrow.Author.Needs.{needs}
 use Prim.Native.Nat.{_≤_}
 use lib.ListN.{length}
 use denote.Ref.{now}
-use Rattle.bincode.specs.Sizes.{base}
-use Rattle.dynamic_honey_badger.specs.State.{stateOf}
-use Rattle.process_output.specs.Process.{processedOf}
-use Rattle.host.proofs.RecordLaws.{first-call, first-filled}
+use Rattle.host.proofs.RecordLaws.{dues, first-done}
 use Rattle.host.proofs.process_first.Statement.{statement}
 use Rattle.host.proofs.process_first.Tie as tie
-use Rattle.host.proofs.process_first.Reads as reads
-use Rattle.host.proofs.process_first.Lts as lts
-use Rattle.process_batch.proofs.process_batch.Reads as process-batch-reads
 
 sub-process-batch : tie.Need-sub-process-batch
 sub-process-batch c = search needs
@@ -53,16 +47,8 @@ returns c =
     let a = c .before .before .before .before .before .before .before .before .before .before .before .before .before .before .before .before .before .before .before .before .before .before .before .args in
     let r = c .before .before .before .before .before .before .before .before .before .before .process-batch in
     let m : a .places ≤ length (now (a .ids)) = c .before .before .before .before .before .before .before .before .before .before .before .before .before .before .before .before .before .before .before .before .before .before .before .pre .0 in
-    let n : a .places ≤ length (now (a .kinds)) = c .before .before .before .before .before .before .before .before .before .before .before .before .before .before .before .before .before .before .before .before .before .before .before .pre .1 in (
-      (
-        first-call base (stateOf (a .state)) (a .inner) (now (a .batch)) (now (a .verdicts)) (now (a .due-kinds)) (now (a .due-indices)) (now (a .due-eras))
-            (processedOf (r .result)) (now (a .ids)) (now (a .kinds)) (a .places) m n (r .ensures .0),
-        r .ensures .1,
-        r .ensures .4,
-      ),
-      (first-filled _ (now (a .ids)) _ _ (a .places) m (r .ensures .2 .0), first-filled _ (now (a .kinds)) _ _ (a .places) n (r .ensures .2 .1)),
-      r .ensures .3,
-    )
+    let n : a .places ≤ length (now (a .kinds)) = c .before .before .before .before .before .before .before .before .before .before .before .before .before .before .before .before .before .before .before .before .before .before .before .pre .1 in
+    first-done (a .state) (a .inner) (now (a .batch)) (now (a .verdicts)) (a .places) (now (a .ids)) (now (a .kinds)) (dues (now (a .due-kinds)) (now (a .due-indices)) (now (a .due-eras))) (r .result) _ _ _ _ (dues _ _ _) m n (r .ensures)
 
 pub process-first-spec : {M : Type 1} → statement M
 process-first-spec =

@@ -3,11 +3,8 @@ use mathlib.Core.Path.{_≡_, sym}
 use lib.ListN.{length, length-map}
 use Rattle.lists.proofs.ListLaws.{length-live}
 use Rattle.bincode.specs.Sizes.{base}
-use borrow.Author.Needs.{needs}
 use Rattle.host.proofs.record_count.Statement.{statement}
 use Rattle.host.proofs.record_count.Tie as tie
-use Rattle.host.proofs.record_count.Reads as reads
-use Rattle.host.proofs.record_count.Lts as lts
 
 returns : tie.Need-returns
 returns c =
