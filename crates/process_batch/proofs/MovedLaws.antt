@@ -99,6 +99,10 @@ module _ (s : DynamicHoneyBadger) (b : BatchCall) (bytes : Bytes (b .bytes)) (w 
         none-left = λ e m. absurd (no-report n e);
       }
 
+-- a refused batch does not touch the store
+never-stirred : (n : ℕ) (some : Bool) → isStirred (outcome.Refused n) some ≡ true → ⊥
+never-stirred n some f = let o : _≡_ {A = ℕ} 0 1 = cc in omega arith
+
 -- the store behind a batch
 module _ (s : DynamicHoneyBadger) (b : BatchCall) (w : Worked) (l : Lists) (u : DynamicHoneyBadger) (t : Told) (h : Moved s b w l u t) where
   -- it is changed: it held something, and the batch is reported
@@ -107,7 +111,7 @@ module _ (s : DynamicHoneyBadger) (b : BatchCall) (w : Worked) (l : Lists) (u : 
       → storeOf k ≡ storeBy o (t .restarted) (t .era) (storeOf (s .store)) (h .kept)
   stirred outcome.Reported e some q k m =
       m ∙ ap (λ (y : MessageStore). keptBy (b .bytes) (contribsIn (w .index)) (t .restarted) (t .era) (storeOf y)) (h .same-store) ∙ h .left e
-  stirred (outcome.Refused n) e some q k m = absurd (let o : _≡_ {A = ℕ} 0 1 = cc in let y : ⊥ = omega arith in y)
+  stirred (outcome.Refused n) e some q k m = absurd (never-stirred n some q)
 
   -- it stays: the batch is refused, or it held nothing
   pub unstirred : (o : BatchOutcome) → t .report .outcome ≡ o → isStirred o (ltb 0 (s .store .count)) ≡ false
@@ -141,11 +145,8 @@ module _ (s : DynamicHoneyBadger) (b : BatchCall) (w : Worked) (l : Lists) (u v 
       record {
         parts = ap (λ (y : DynamicHoneyBadger). partsIn y t) e;
         store = ap (λ (y : DynamicHoneyBadger). storeOf (y .store)) e ∙ stirred s b w l u t h (t .report .outcome) refl some q k m;
-        same = λ n r. absurd (never n some (ap (λ (o : BatchOutcome). isStirred o some) (sym r) ∙ q));
+        same = λ n r. absurd (never-stirred n some (ap (λ (o : BatchOutcome). isStirred o some) (sym r) ∙ q));
       }
-    where
-      never : (n : ℕ) (x : Bool) → isStirred (outcome.Refused n) x ≡ true → ⊥
-      never n x f = let o : _≡_ {A = ℕ} 0 1 = cc in omega arith
 
   pub stored-same : isStirred (t .report .outcome) (ltb 0 (s .store .count)) ≡ false → v ≡ u → Stored s u v t (h .kept)
   stored-same q e =

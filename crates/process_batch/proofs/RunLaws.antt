@@ -20,11 +20,12 @@ use Rattle.process_batch.specs.declared.Worked.{Worked}
 use Rattle.process_batch.specs.declared.Settled.{Settled}
 use Rattle.process_batch.specs.Answer.{asGiven}
 use Rattle.process_batch.specs.Worked.{Working, RanAs, Concluded}
+use Rattle.process_batch.proofs.ConcludeLaws.{never-refused}
 use Rattle.process_batch.proofs.DoneLaws.{Noted, taken-filled}
 
 -- a refusal is no report
 pub no-report : (n : ℕ) → _≡_ {A = BatchOutcome} (outcome.Refused n) outcome.Reported → ⊥
-no-report n e = let o : _≡_ {A = ℕ} 0 1 = cc in omega arith
+no-report n e = never-refused n (sym e)
 
 module _ (s : DynamicHoneyBadger) (b : BatchCall) where
   -- rows 1 to 6 refuse
