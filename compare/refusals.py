@@ -1,5 +1,6 @@
 """Calls built to be refused, each for one row of the scope document's table, and pairs of rows for the order. The number is stated here, as the
 call is built; it is never taken from the engine."""
+import requests
 import wire
 from season import LAST, FULL
 
@@ -92,6 +93,26 @@ def row_4(s, r):
             (4, s.line([(1, b"", [m], [])], [0, 0], inner=LAST)), (4, s.line([(1, b"", [m], [])], [9], inner=LAST))]
 
 
+def row_15(s, r):
+    """A batch of another era, earlier or later, alone and with the rows that come before 15 or behind it; in its own era each of the last would be taken or be 5, 6 or 7."""
+    m = (s.era, 59, ("part", 1, [1]), 3)
+    one = [(1, b"", [m], [])]
+    all_vote = [(2, b"", [], [(("schedule", (1,)), s.era, LAST, i, key) for i, key in s.map])]
+    none_left = [(2, b"", [], [(("map", []), s.era, LAST, i, key) for i, key in s.map])]
+    gone = [(s.era, i, ("part", 1, []), key) for i, key in s.map if s.candidate is not None and i not in dict(s.candidate)]
+    out = []
+    for era in sorted({0, max(0, s.era - 1), min(LAST, s.era + 1), LAST} - {s.era}):
+        late = lambda rows, cs, verdicts, **other: (requests.first_row([15] + rows), s.line(cs, verdicts, era=era, **other))
+        out += [late([], [], []), late([], [], [], inner=0), late([], one, [r.randrange(4)]), late([], all_vote, []), late([7], none_left, []),
+                late([1], [], [], places=(1023, 1025)), late([1], one, [0], places=(2000, 1024)), late([1, 2, 4, 5], [], [4], raw=b"\0" * 9, inner=LAST, places=(0, 0)),
+                late([2], [], [], raw=wire.batch(one)[:-1]), late([2, 4, 5], [], [9], raw=empty_batch() + b"\0", inner=LAST),
+                late([3], [], [], raw=wire.u64(17)), late([3, 4], [], [4], raw=item_batch([(s.era, 1, ("ack", 0, [0] * 25), 7)], [])),
+                late([4], one, []), late([4], one, [4]), late([4], [], [0]), late([4, 5], one, [0, 0], inner=LAST),
+                late([5], [], [], inner=LAST), late([5], one, [0], inner=LAST)]
+        out += [late([6], [(2, b"", [m], [])], [0]) for m in gone]
+    return out
+
+
 def row_5(s, r):
     out = [(5, s.line([], [], inner=LAST - s.era)), (5, "next %d" % (LAST - s.era))]
     if s.era > 0:
@@ -128,10 +149,13 @@ def row_14(s, r):
     return [(14, "schedule %d %s" % (r.randrange(9), wire.schedule(x).hex())) for x in ((2, 0), (3, 0, 0), (3, 2**32 - 1, 1), (3, 2**32 - 1, 2**32 - 1))]
 
 
-ROWS = [row_1, row_2_and_3, row_4, row_5, row_6, row_8_to_10, row_14]
+ROWS = [row_1, row_2_and_3, row_4, row_15, row_5, row_6, row_8_to_10, row_14]
 
 
 def bad_lines(s, r):
-    return ["", "# a comment", "state 1", "stat", "new 1", "batch 0 00 - 1024", "next 18446744073709551616", "next 000000000000000000001",
-            "next -1", "add 4294967296 5", "propose 2 0", "vote 0", "vote 0G", "vote AB", "vote ", "vote", "stored", "plan 0 2001", "batch 0 0000000000000000 - 1024 2001",
-            "next 00000000000000000001", " state", "state ", "next  1", "user 1 zz", "schedule 1 -0"]
+    return ["", "# a comment", "state 1", "stat", "new 1", "batch 0 0 00 - 1024", "next 18446744073709551616", "next 000000000000000000001",
+            "next -1", "add 4294967296 5", "propose 2 0", "vote 0", "vote 0G", "vote AB", "vote ", "vote", "stored", "plan 0 2001", "batch 0 0 0000000000000000 - 1024 2001",
+            "next 00000000000000000001", " state", "state ", "next  1", "user 1 zz", "schedule 1 -0",
+            # a batch without its era, with an era that is none, and with a field too many
+            "batch %d 0000000000000000 - 1024 1025" % s.inner, "batch 18446744073709551616 0 0000000000000000 - 1024 1025",
+            "batch - 0 0000000000000000 - 1024 1025", "batch %d 0 0000000000000000 - 1024 1025 0" % s.era, "last 1", "last ", "lasts"]

@@ -1,9 +1,10 @@
 """Seasons: a log of calls that one replica gets, built step by step against the oracle, whose answers tell what the group's state is.
 
-Each line of a log comes with what must be answered: the oracle's own words, or, for a call that was built to be refused, `refused N`
+Each line of a log comes with what must be answered (requests.py): the oracle's own words, or, for a call that was built to be refused, `refused N`
 with the number of the row that it was built for, or `refused *` for bytes that were damaged at random (some refusal, no number stated)."""
 import random
 import subprocess
+import requests
 import wire
 
 LAST = 2**64 - 1
@@ -35,7 +36,10 @@ class Season:
         """A small season has few nodes, fewer calls, and shows the state now and then only: the sample is made of such.
         A deep one shows after each accepted call everything that a log can show: the state, each pending vote, each stored message."""
         self.o, self.r, self.small, self.deep = oracle, random.Random(seed), small, deep
-        self.lengths = random.Random("lengths %d" % seed)  # apart, so that the sample, which has full lists alone, stays as it is
+        # apart, so that a season keeps its other calls where these are added or left out
+        self.lengths = random.Random("lengths %d" % seed)
+        self.late = random.Random("late %d" % seed)
+        self.era = None  # the engine's, once one has started
         self.lines, self.answers = [], []
         self.shown = set()  # the places of answers that a deep season adds
         self.last_era = None  # the era in which the own pending vote has the last number
@@ -53,24 +57,19 @@ class Season:
         return [a for i, a in enumerate(self.answers) if i not in self.shown][-k:]
 
     # -- lines ---------------------------------------------------------------------------------------------------------------
-    def say(self, line, number=None):
-        """A call; with a number it was built for that row of the table."""
-        a = self.o.ask(line)
-        if number is not None:
-            if a not in ("undefined", "no engine", "bad line") and number != "free":
-                raise SystemExit("the oracle answers a call that was built for row %s: %s -> %s" % (number, line[:300], a[:200]))
-            a = "refused %s" % number if number != "free" else a
-        elif a == "undefined":
-            raise SystemExit("the oracle refuses a call that was built to be accepted: %s" % line[:4000])
+    def say(self, line, number=None, maybe=False):
+        """A call; with a number it was built for that row of the table, with `maybe` the Rust may take it all the same."""
+        a = requests.asked(line, self.era, self.o.ask(line), number, maybe)
         self.lines.append(line)
         self.answers.append(a)
-        if self.deep and a != "undefined" and not a.startswith("refused") and line.split(" ")[0] in CHANGING:
+        if self.deep and line.split(" ")[0] in CHANGING and (a == "refused 15" or not a.startswith(("refused", "no engine"))):
             self.show_all()
         return a
 
     def show_all(self):
         """Asks without a random number, so that a deep season is the plain one with more lines."""
         self.show("state")
+        self.show("last")
         for word in ("pending", "stored"):
             k = 0
             while self.show("%s %d" % (word, k)) != "none":
@@ -85,10 +84,12 @@ class Season:
 
     def damaged(self, line):
         """Bytes damaged at random: where the oracle reads them all the same, its answer counts."""
-        a = self.o.ask(line)
-        self.lines.append(line)
-        self.answers.append("refused *" if a == "undefined" else a)
-        return a
+        return self.say(line, "*", maybe=True)
+
+    def last(self, share):
+        """Asks for the last report, in a share of the places where this stands: behind starts, reports, refusals, new eras, joinings."""
+        if self.late.random() < share:
+            self.say("last")
 
     # -- the group's state, as the oracle tells it -----------------------------------------------------------------------------
     def look(self):
@@ -114,6 +115,7 @@ class Season:
         assert a == "started", a
         self.inner = 0
         self.look()
+        self.last(0.2)
 
     def any_schedule(self):
         r = self.r
@@ -184,10 +186,11 @@ class Season:
         return (era == self.era and self.candidate is not None and dict(self.map).get(i) == sig and i not in dict(self.candidate))
 
     # -- batches ---------------------------------------------------------------------------------------------------------------
-    def line(self, cs, verdicts, inner=None, places=None, raw=None):
+    def line(self, cs, verdicts, inner=None, places=None, raw=None, era=None):
+        """A batch call; of the engine's era, as the oracle tells it, where no other is given."""
         places = places or (FULL if self.small else self.lengths.choice(ENOUGH))
-        return "batch %d %s %s %d %d" % (self.inner if inner is None else inner, (raw if raw is not None else wire.batch(cs)).hex(),
-                                         wire.hexed(bytes(verdicts)), *places)
+        return "batch %d %d %s %s %d %d" % (self.era if era is None else era, self.inner if inner is None else inner,
+                                            (raw if raw is not None else wire.batch(cs)).hex(), wire.hexed(bytes(verdicts)), *places)
 
     def spread(self, messages, votes):
         """Contributions with these items, ids ascending; proposers need be in no map."""
@@ -215,8 +218,18 @@ class Season:
         before = self.era
         a = self.say(line, number)
         self.look()
+        self.last(0.1)
+        if self.era != before:
+            self.second(before)
         self.inner = 0 if self.era != before else self.inner + (self.r.random() < 0.9)
         return a
+
+    def second(self, before, share=0.15):
+        """Behind a batch that began an era, now and then the next one of the era that it closed, as a box gets them that catches up: refused by 15."""
+        if self.late.random() < share:
+            votes = [(("schedule", (1,)), self.era, 0, i, key) for i, key in self.map]
+            self.say(self.line([(self.map[0][0], b"late", [], votes)], [], inner=self.inner + 1, era=before), 15)
+            self.last(0.5)
 
     def vote_batch(self, c=None, share=None, damage=0.0):
         """Votes for one change, of enough voters or of few."""
@@ -283,18 +296,14 @@ class Season:
         n = len(self.candidate) if self.candidate else 3
         m = ("part", r.randrange(3), [0] * n) if r.random() < 0.5 else ("ack", r.randrange(n + 1), [9] * n)
         era, i, m, sig = self.key_message(sender, m, 0.25)
-        a = self.say("message %d %s" % (sender, wire.message_key_gen(era, m, sig).hex()), "free")
-        if a == "undefined":
-            self.answers[-1] = "refused 12"
+        self.say("message %d %s" % (sender, wire.message_key_gen(era, m, sig).hex()), 12, maybe=True)
 
     def returned(self):
         r = self.r
         n = len(self.candidate) if self.candidate else 2
         m = ("part", r.randrange(9), [1] * n) if r.random() < 0.5 else ("ack", r.randrange(n), [2] * n)
         era = self.era if r.random() < 0.8 else r.choice([max(0, self.era - 1), min(LAST, self.era + 1)])
-        a = self.say("due %s" % wire.message_key_gen(era, m, self.own_key).hex(), "free")
-        if a == "undefined":
-            self.answers[-1] = "refused 12"
+        self.say("due %s" % wire.message_key_gen(era, m, self.own_key).hex(), 12, maybe=True)
 
     def query(self):
         r = self.r

@@ -2,6 +2,10 @@
 import wire
 
 
+# the era that the opening batch begins, that of the batches which are measured behind it
+ERA = 1
+
+
 def turns(b):
     """As many that a small batch can be told from noise, and a log stays short."""
     return max(40, min(4000, 4000000 // len(b)))
@@ -17,7 +21,7 @@ def opening(n):
     wanted = m[:-1] + [(n, 5)]
     votes = [(("map", wanted), 0, 0, i, k) for i, k in m]
     return ["new 1 1001 0 %s %s" % (wire.node_map(m).hex(), wire.params((3, 0, (0,))).hex()),
-            "batch 0 %s - 1024 1025" % wire.batch([(1, b"", [], votes)]).hex()]
+            batch_line(wire.batch([(1, b"", [], votes)]), era=0)]
 
 
 def messages_batch(n, k):
@@ -55,20 +59,20 @@ def start(n, era=0):
     return "new 1 1001 %d %s %s" % (era, wire.node_map(nodes(n)).hex(), wire.params((3, 0, (0,))).hex())
 
 
-def batch_line(b, verdicts=0):
-    return "batch 0 %s %s 1024 1025" % (b.hex(), wire.hexed(bytes(verdicts)))
+def batch_line(b, verdicts=0, era=ERA, inner=0):
+    return "batch %d %d %s %s 1024 1025" % (era, inner, b.hex(), wire.hexed(bytes(verdicts)))
 
 
 def staying_log(n):
     """Votes of all nodes, each for a map of its own, numbered from batch to batch: all stay, none wins."""
     k = turns(all_votes(n, 0, 0, lambda i: keyed(n, i)))
-    return [start(n)] + [batch_line(all_votes(n, j, 0, lambda i: keyed(n, 9 + i))) for j in range(k)]
+    return [start(n)] + [batch_line(all_votes(n, j, 0, lambda i: keyed(n, 9 + i)), era=0) for j in range(k)]
 
 
 def winning_log(n):
     """Votes of all nodes for one map, another from batch to batch: an era and a key generation begin with each."""
     k = turns(all_votes(n, 0, 0, lambda i: keyed(n, 5)))
-    return [start(n)] + [batch_line(all_votes(n, 0, j, lambda i: keyed(n, 5 + j % 2))) for j in range(k)]
+    return [start(n)] + [batch_line(all_votes(n, 0, j, lambda i: keyed(n, 5 + j % 2)), era=j) for j in range(k)]
 
 
 def recorded_batch(n, era):
@@ -86,7 +90,7 @@ def recorded_log(n):
     lines = [start(n)]
     for j in range(turns(recorded_batch(n, 0)[0])):
         b, k = recorded_batch(n, j + 1)
-        lines += [batch_line(all_votes(n, 0, j, lambda i: keyed(n, 5 + j % 2))), batch_line(b, k)]
+        lines += [batch_line(all_votes(n, 0, j, lambda i: keyed(n, 5 + j % 2)), era=j), batch_line(b, k, era=j + 1)]
     return lines
 
 
@@ -98,4 +102,4 @@ def stored_log(n, k):
 
 
 def batches_log(n, b, verdicts):
-    return opening(n) + ["batch %d %s %s 1024 1025" % (j, b.hex(), wire.hexed(bytes(verdicts))) for j in range(turns(b))]
+    return opening(n) + [batch_line(b, verdicts, inner=j) for j in range(turns(b))]

@@ -1,5 +1,5 @@
 //! The oracle: reads a call log on standard input and answers each call from the Rust.
-//! Where the Rust errs or panics, or document 01 has a limit that the Rust has not, the answer is `undefined` and nothing has changed.
+//! Where the Rust errs or panics, or the documents have a limit that the Rust has not, the answer is `undefined` and nothing has changed.
 //!
 //! --raw             the Rust as it is: `error ..` or `panic ..` in place of `undefined`, no limits, own messages stored when made,
 //!                   nothing put back; comments are printed, and `counts` shows the counts per sender and the size of the store
@@ -116,11 +116,11 @@ impl Oracle {
                 let message = bytes(f[1])?;
                 self.change(line, |engine, _| engine.log_due(&message))
             }
-            (b"batch", 6) => {
-                let (inner, batch, verdicts) = (big(f[1])?, bytes(f[2])?, bytes(f[3])?);
-                let lent = (places(f[4])?, places(f[5])?);
+            (b"batch", 7) => {
+                let (era, inner, batch, verdicts) = (big(f[1])?, big(f[2])?, bytes(f[3])?, bytes(f[4])?);
+                let lent = (places(f[5])?, places(f[6])?);
                 self.change(line, |engine, last| {
-                    let (report, answer) = engine.log_batch(inner, &batch, &verdicts, lent)?;
+                    let (report, answer) = engine.log_batch(era, inner, &batch, &verdicts, lent)?;
                     *last = Some(report);
                     Ok(answer)
                 })
@@ -129,6 +129,7 @@ impl Oracle {
                 let (key_set, room) = (big(f[1])?, places(f[2])?);
                 self.ask(|_, last| last.as_ref().map_or(Ok("no report".into()), |report| Engine::log_plan(report, key_set, room)))
             }
+            (b"last", 1) => self.ask(|_, last| Ok(last.as_ref().map_or("none".into(), Engine::log_last))),
             (b"stored", 2) => {
                 let place = big(f[1])?;
                 self.ask(|engine, _| Ok(engine.log_stored(place as usize)))

@@ -55,10 +55,10 @@ fn log_key_gen(msg: &KeyGenMessage) -> LogKeyGen {
     }
 }
 
-// Document 01's limits, which the Rust does not have.
+// The documents' limits, which the Rust does not have.
 
 fn within(limit: bool) -> Answer<()> {
-    if limit || mode::raw() { Ok(()) } else { Err("a limit of document 01".into()) }
+    if limit || mode::raw() { Ok(()) } else { Err("a limit of the documents".into()) }
 }
 
 fn map_within(map: &PubKeyMap<u32>) -> Answer<()> {
@@ -295,8 +295,10 @@ impl Engine {
         Ok("handled".into())
     }
 
-    pub fn log_batch(&mut self, inner: u64, batch: &[u8], verdicts: &[u8], places: (usize, usize)) -> Answer<(Report, String)> {
+    pub fn log_batch(&mut self, era: u64, inner: u64, batch: &[u8], verdicts: &[u8], places: (usize, usize)) -> Answer<(Report, String)> {
         within(places.0 >= 1024 && places.1 >= 1025)?;
+        // The Rust's batches carry no era: one of another era (document 02, CR 1) is handed on with --raw only, as if it were the engine's.
+        within(era == self.era)?;
         let batch = read_batch(batch)?;
         if verdicts.len() != batch.values().map(|c| c.key_gen_messages.len()).sum() || verdicts.iter().any(|v| *v > 3) {
             return Err("wrong verdicts".into());
@@ -332,6 +334,11 @@ impl Engine {
             None => "none".into(),
             Some(plan) => format!("plan {}", encoded(&JoinPlan { pub_key_set: key_set.into(), ..plan })),
         })
+    }
+
+    /// The Rust's own report, as it stamped it.
+    pub fn log_last(report: &Report) -> String {
+        format!("last {} {}", report.epoch, report.era)
     }
 
     pub fn log_stored(&self, place: usize) -> String {

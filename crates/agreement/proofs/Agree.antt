@@ -99,6 +99,10 @@ start-opens z (join-start places id key plan) s e = go (joinChecked z places id 
         let q : joinedWith z id key p .state ≡ s = cc in
         ap plannedBy (accepted-plan z places id key plan p f .1) ∙ ap found (joined-opens z id key p ∙ ap refOf q)
 
+-- whatever that is found to be
+pub opened-stands : (z : Sizes) (start : Start) (s : StateOf) → startState z start ≡ done s → (r : RefState) → refStart z start ≡ found r → refOf s ≡ r
+opened-stands z start s e r opens = found-same (sym (start-opens z start s e) ∙ opens)
+
 -- two nodes that follow one reference state, with the same shared batches, agree
 pub follow-one : (z : Sizes) (r : RefState) (s : StateOf) (cs : List Call) (t : StateOf) (ds : List Call) → FollowsFrom z r s cs → FollowsFrom z r t ds
     → sharedBatches z s cs ≡ sharedBatches z t ds → Agree z s cs t ds

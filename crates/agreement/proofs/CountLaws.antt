@@ -1,14 +1,14 @@
 -- No batch has more faults or due items than the lists lent for them: each vote and each key message makes at most one.
 -- Assumes nothing.
 use Prim.Native.Nat.{ℕ, _+_, _≤_}
-use mathlib.Core.Path.{_≡_, refl, subst}
+use mathlib.Core.Path.{_≡_, subst}
 use mathlib.Core.Logic.{_⊎_}
 use mathlib.Core.List.{List, [], _∷_}
 use mathlib.Core.Bool.{Bool, true, false, cond}
 use native.Mathlib.Omega.{arith}
 use lib.ListN.{length}
 use Rattle.lists.specs.Lists.{Found, found, nothing}
-use Rattle.bincode.specs.Read.{Read, value, refuse}
+use Rattle.bincode.specs.Read.{value, refuse}
 use Rattle.bincode.specs.Outcome.{Outcome, done, refused}
 use Rattle.bincode.specs.Sizes.{Sizes}
 use Rattle.bincode.specs.Items.{foldl}
@@ -20,12 +20,11 @@ use Rattle.due.specs.declared.DueItem.{DueItem}
 use Rattle.vote_counter.specs.VoteCounter.{computeWinner}
 use Rattle.key_gen_state.specs.KeyGenState.{KeyGenStateOf, readyState}
 use Rattle.internal_contrib.specs.InternalContrib.{ContribOf, readBatch}
-use Rattle.dynamic_honey_badger.specs.Asked.{row5}
 use Rattle.dynamic_honey_badger.specs.State.{StateOf, eraOf, nodesIn, newEra, keyGenFor, candidateNodes}
 use Rattle.steps.specs.Steps.{WorkOf, oweTo, committed}
 use Rattle.decision.specs.Decision.{Decided, decidedAs, completedBy, isCandidate, mapWins, scheduleWins, electedBy, decide}
-use Rattle.process_output.specs.Refusals.{batchRow1, batchRow4, batchRow6, batchRow7}
-use Rattle.process_output.specs.Process.{BatchCall, ReportOf, ProcessedOf, denied, finished, processedContribs, processedRead, processed}
+use Rattle.process_output.specs.Process.{BatchCall, ReportOf, finished, processed}
+use Rattle.process_output.proofs.CallLaws.{IsTaken, batch-cases}
 use Rattle.agreement.proofs.FoldLaws.{total-one, fold-grows}
 use Rattle.agreement.proofs.StepLaws.{itemCount, one-more, contribs-faults, contribs-due}
 use Rattle.agreement.proofs.ReadingLaws.{Answers, batch-answers}
@@ -73,29 +72,16 @@ Few z (done r) = (length (r .faults) ≤ z .items) × (length (r .due) ≤ z .it
 Few z (refused n) = Unit {0}
 
 module _ (z : Sizes) (s : StateOf) (b : BatchCall) where
-  few-choice : (t : Bool) (n : ℕ) (p : ProcessedOf) → Few z (p .answer) → Few z (cond {A = ProcessedOf} t (denied s n) p .answer)
-  few-choice true n p f = tt
-  few-choice false n p f = f
-
   few-owed : (due : List DueItem) (more : List DueItem) → length due ≤ z .items → length more ≤ 1 → length (foldl (oweTo z) due more) ≤ z .items + 1
   few-owed due more h k = omega (arith, fold-grows (λ d. 1) length (oweTo z) (one-more (z .due)) due more, total-one more)
 
-  few-contribs : (cs : List ContribOf) (c : ℕ) → readBatch z (b .bytes) ≡ value cs c → Few z (processedContribs z s b cs .answer)
-  unfolding processedContribs
-  few-contribs cs c p =
+  few-taken : (cs : List ContribOf) (c : ℕ) → IsTaken z s b cs c → Few z (finished z s (eraOf s + b .inner) (committed z s (b .verdicts) cs) .answer)
+  few-taken cs c t =
       let w : WorkOf = committed z s (b .verdicts) cs in
-      few-choice (batchRow4 cs (b .verdicts)) 4 _
-      (few-choice (row5 (eraOf s + b .inner)) 5 _
-      (few-choice (batchRow6 s cs) 6 _
-      (few-choice (batchRow7 z s (b .verdicts) cs) 7 (finished z s (eraOf s + b .inner) w) (
+      let p : readBatch z (b .bytes) ≡ value cs c = t .is-own .is-read .bytes-read in (
         few-faults z (b .bytes) s (b .verdicts) cs c p,
         few-owed (w .due) (decide z (eraOf s + b .inner + 1) (w .state) .due) (few-due z (b .bytes) s (b .verdicts) cs c p) (decide-due z (eraOf s + b .inner + 1) (w .state)),
-      ))))
+      )
 
   pub few-reported : (r : ReportOf) → processed z s b .answer ≡ done r → (length (r .faults) ≤ z .items) × (length (r .due) ≤ z .items + 1)
-  unfolding processed
-  few-reported r e = subst (Few z) e (few-choice (batchRow1 z (b .fault-places) (b .due-places)) 1 (processedRead z s b (readBatch z (b .bytes))) (go (readBatch z (b .bytes)) refl))
-    where
-      go : (x : Read (List ContribOf)) → readBatch z (b .bytes) ≡ x → Few z (processedRead z s b x .answer)
-      go (value cs c) p = few-contribs cs c p
-      go (refuse n) p = tt
+  few-reported r e = subst (Few z) e (batch-cases z s b (λ p. Few z (p .answer)) (λ w. tt) few-taken)

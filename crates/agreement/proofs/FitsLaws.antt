@@ -41,22 +41,24 @@ pub joining-fits : (κs : Lfts 4) (a : Dens κs joining.ps) → GoodsP κs joini
     → StartFits (join-start (duePlaces (now (a .1 .1 .1 .0)) (now (a .1 .1 .1 .1 .0)) (now (a .1 .1 .1 .1 .1 .0))) (a .0) (a .1 .0) (now (a .1 .1 .0)))
 joining-fits κs a g plan = (omega (arith, g .0 .1), omega (arith, g .1 .0 .1), bytes-fit (now (a .1 .1 .0)) plan)
 
--- a batch: inner epoch, batch, verdicts, lent lists of faults and of due items
-pub batch-fits : (κs : Lfts 7) (a : Dens κs processing.ps) → GoodsP κs processing.ps a → Fit (fInt w8) 0 (now (a .1 .1 .0)) → Fit (fInt w8) 0 (now (a .1 .1 .1 .0))
+-- a batch: era, inner epoch, batch, verdicts, lent lists of faults and of due items
+pub batch-fits : (κs : Lfts 7) (a : Dens κs processing.ps) → GoodsP κs processing.ps a → Fit (fInt w8) 0 (now (a .1 .1 .1 .0)) → Fit (fInt w8) 0 (now (a .1 .1 .1 .1 .0))
     → CallFits
     (batch-call
     (lentCall
     (a .1 .0)
-    (now (a .1 .1 .0))
+    (a .1 .1 .0)
     (now (a .1 .1 .1 .0))
+    (now (a .1 .1 .1 .1 .0))
     (record {
-      fault-ids = now (a .1 .1 .1 .1 .0);
-      fault-kinds = now (a .1 .1 .1 .1 .1 .0);
-      due-kinds = now (a .1 .1 .1 .1 .1 .1 .0);
-      due-indices = now (a .1 .1 .1 .1 .1 .1 .1 .0);
-      due-eras = now (a .1 .1 .1 .1 .1 .1 .1 .1 .0);
+      fault-ids = now (a .1 .1 .1 .1 .1 .0);
+      fault-kinds = now (a .1 .1 .1 .1 .1 .1 .0);
+      due-kinds = now (a .1 .1 .1 .1 .1 .1 .1 .0);
+      due-indices = now (a .1 .1 .1 .1 .1 .1 .1 .1 .0);
+      due-eras = now (a .1 .1 .1 .1 .1 .1 .1 .1 .1 .0);
     })))
-batch-fits κs a g batch verdicts = (omega (arith, g .1 .0 .1), bytes-fit (now (a .1 .1 .0)) batch, bytes-fit (now (a .1 .1 .1 .0)) verdicts)
+batch-fits κs a g batch verdicts =
+    (omega (arith, g .1 .0 .1), omega (arith, g .1 .1 .0 .1), bytes-fit (now (a .1 .1 .1 .0)) batch, bytes-fit (now (a .1 .1 .1 .1 .0)) verdicts)
 
 -- own votes: a change; an id with its key; an id
 pub vote-fits : (κs : Lfts 1) (a : Dens κs voting.ps) → Fit (fInt w8) 0 (now (a .1 .0)) → CallFits (vote-call (now (a .1 .0)))
@@ -84,7 +86,7 @@ set-fits κs a g = omega (arith, g .1 .1 .0 .1)
 pub calls-bytes : (cs : List Call) → All CallFits cs → OfBytes cs
 unfolding batchCalls
 calls-bytes [] fits = tt
-calls-bytes (batch-call b ∷ cs) fits = (fits .0 .1, calls-bytes cs (fits .1))
+calls-bytes (batch-call b ∷ cs) fits = (fits .0 .2, calls-bytes cs (fits .1))
 calls-bytes (vote-call bytes ∷ cs) fits = calls-bytes cs (fits .1)
 calls-bytes (add-call id key ∷ cs) fits = calls-bytes cs (fits .1)
 calls-bytes (remove-call id ∷ cs) fits = calls-bytes cs (fits .1)

@@ -5,12 +5,11 @@ use mathlib.Core.Path.{_≡_, refl, sym, ap, _∙_}
 use mathlib.Core.List.{List, [], _∷_, map}
 use mathlib.Core.Bool.{Bool, true, false, cond}
 use native.Mathlib.Omega.{arith}
-use lib.Dec.{ltb, eqb}
+use lib.Dec.{eqb}
 use lib.ListN.{length}
 use borrow.Author.Tests.{ltb-false}
 use Rattle.lists.specs.Lists.{Found, found, nothing}
 use Rattle.lists.proofs.ListLaws.{false-true}
-use Rattle.bincode.specs.Read.{Read, value, refuse}
 use Rattle.bincode.specs.Sizes.{Sizes}
 use Rattle.bincode.specs.Items.{foldl}
 use Rattle.bincode.specs.Stands.{Bytes, Each, All}
@@ -31,7 +30,7 @@ use Rattle.key_gen_message.specs.KeyGenMessage.{SignedKeyGenMsgOf, SignedOk}
 use Rattle.message_store.specs.MessageStore.{isOther, without}
 use Rattle.joining.specs.Starting.{isEmpty}
 use Rattle.internal_contrib.specs.declared.Budget.{Budget}
-use Rattle.internal_contrib.specs.InternalContrib.{ContribOf, readBatch, spending, opening, ContribOk}
+use Rattle.internal_contrib.specs.InternalContrib.{ContribOf, spending, opening, ContribOk}
 use Rattle.internal_contrib.proofs.ContribCodes.{batch-one-encoding}
 use Rattle.dynamic_honey_badger.specs.Asked.{row5}
 use Rattle.dynamic_honey_badger.specs.State.{StateOf, eraOf, nodesIn, withKeyGen, withStore, withParams, candidateNodes, validUnder, newEra, freshKeyGen, keyGenFor, partDue}
@@ -39,15 +38,16 @@ use Rattle.dynamic_honey_badger.specs.Received.{quiet, fault}
 use Rattle.steps.specs.Steps as steps
 use Rattle.steps.specs.Steps.{WorkOf, withState, votedAs as countedAs, committedVote, Told, owed, blamed-proposer, blamed-signer, MessageDoneOf, doneAs, byKeyGen, messageDone, applied, firstVerdict, judged, committedMessage, committedContrib, begun, committed}
 use Rattle.decision.specs.Decision.{Decided, decidedAs, completedBy, isCandidate, mapWins, withSchedule, scheduleWins, electedBy, decide, isEmptyMap, emptyWins}
-use Rattle.process_output.specs.Refusals.{batchRow1, batchRow4, batchRow6, batchRow7}
-use Rattle.process_output.specs.Process.{BatchCall, ProcessedOf, denied, finished, processedContribs, processedRead, processed}
+use Rattle.process_output.specs.Refusals.{batchRow7}
+use Rattle.process_output.specs.Process.{BatchCall, finished, processed}
+use Rattle.process_output.proofs.CallLaws.{IsTaken, batch-cases}
 use Rattle.agreement.specs.Formed.{MapFormed, RunningFormed, Formed}
 use Rattle.agreement.proofs.Sound.{FoundOk, winner-ok, all-map}
 use Rattle.lists.proofs.FilterLaws.{filter-length}
 use Rattle.agreement.proofs.AllLaws.{all-filter, all-then, fold-keeps}
 use Rattle.agreement.proofs.FormedParts.{signer-member, vote-more}
 use Rattle.agreement.proofs.FormedKeyGen.{fresh-formed, handled-formed}
-use Rattle.agreement.proofs.FormedChanges.{with-committed, with-key-gen, with-params, with-store, new-era-formed}
+use Rattle.agreement.proofs.FormedChanges.{with-committed, with-key-gen, with-params, with-store, with-last, new-era-formed}
 
 -- votes and key messages of a contribution, of the kind that bytes are read as
 abbrev ItemsOk : Sizes → ContribOf → Type 0
@@ -174,42 +174,24 @@ module _ (z : Sizes) (era : ℕ) (fits : era < 256 ^ 8) (s : StateOf) (later : e
 
 -- a batch call
 module _ (z : Sizes) (s : StateOf) (f : Formed z s) (b : BatchCall) where
-  -- a batch that was read
-  contribs-formed : (cs : List ContribOf) → All (ItemsOk z) cs → Formed z (processedContribs z s b cs .state)
-  unfolding processedContribs batchRow7 row5
-  contribs-formed cs o =
-      go (batchRow4 cs (b .verdicts)) (ltb 18446744073709551614 (eraOf s + b .inner)) refl (batchRow6 s cs) (emptyWins (committed z s (b .verdicts) cs .state)) refl
-    where
-      epoch : ℕ
-      epoch = eraOf s + b .inner
-
-      w : WorkOf
-      w = committed z s (b .verdicts) cs
-
-      k : Working z (eraOf s) w
-      k = committed-works z s (b .verdicts) cs o f
-
-      go : (r4 r5 : Bool) → ltb 18446744073709551614 epoch ≡ r5 → (r6 r7 : Bool) → emptyWins (w .state) ≡ r7
-          → Formed z (cond {A = ProcessedOf} r4 (denied s 4) (cond r5 (denied s 5) (cond r6 (denied s 6) (cond r7 (denied s 7) (finished z s epoch w)))) .state)
-      go true r5 p r6 r7 q = f
-      go false true p r6 r7 q = f
-      go false false p true r7 q = f
-      go false false p false true q = f
-      go false false p false false q =
-          let l = ltb-false 18446744073709551614 epoch p in
-          let e = k .1 in
-          decided-formed z (epoch + 1) (omega arith) (w .state) (omega arith) (k .0) q
-
   -- the votes and key messages of a batch that was read
   items-read : (left : Budget) (cs : List ContribOf) → Each spending (ContribOk z) left cs → All (ItemsOk z) cs
   items-read left [] each = tt
   items-read left (c ∷ cs) each = ((each .0 .votes-ok, each .0 .messages-ok), items-read (spending left c) cs (each .1))
 
+  -- a batch that no row refuses
+  taken-formed : (cs : List ContribOf) (c : ℕ) → IsTaken z s b cs c → All (ItemsOk z) cs → Formed z (finished z s (eraOf s + b .inner) (committed z s (b .verdicts) cs) .state)
+  unfolding batchRow7 row5
+  taken-formed cs c t o =
+      let epoch = eraOf s + b .inner in
+      let w : WorkOf = committed z s (b .verdicts) cs in
+      let k : Working z (eraOf s) w = committed-works z s (b .verdicts) cs o f in
+      let l = ltb-false 18446744073709551614 epoch (t .early) in
+      let e = k .1 in
+      with-last z (decide z (epoch + 1) (w .state) .state) (decided-formed z (epoch + 1) (omega arith) (w .state) (omega arith) (k .0) (t .not-empty))
+      (found (record { epoch = epoch; era = eraOf s })) (omega arith, f .era-fits)
+
   pub batch-formed : z .nodes < 256 ^ 8 → z .rows < 256 ^ 8 → z .user < 256 ^ 8 → Bytes (b .bytes) → Formed z (processed z s b .state)
-  unfolding processed
-  batch-formed nodes-fit rows-fit user-fits are = go (batchRow1 z (b .fault-places) (b .due-places)) (readBatch z (b .bytes)) refl
-    where
-      go : (r1 : Bool) (x : Read (List ContribOf)) → readBatch z (b .bytes) ≡ x → Formed z (cond {A = ProcessedOf} r1 (denied s 1) (processedRead z s b x) .state)
-      go true x e = f
-      go false (value cs c) e = contribs-formed cs (items-read (opening z) cs (batch-one-encoding z nodes-fit rows-fit user-fits (b .bytes) cs c are e .1 .each))
-      go false (refuse n) e = f
+  batch-formed nodes-fit rows-fit user-fits are =
+      batch-cases z s b (λ p. Formed z (p .state)) (λ w. f)
+      (λ cs c t. taken-formed cs c t (items-read (opening z) cs (batch-one-encoding z nodes-fit rows-fit user-fits (b .bytes) cs c are (t .is-own .is-read .bytes-read) .1 .each)))

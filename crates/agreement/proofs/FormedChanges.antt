@@ -19,9 +19,9 @@ use Rattle.vote_counter.specs.VoteCounter.{withPending, withCommitted}
 use Rattle.key_gen_state.specs.KeyGenState.{KeyGenStateOf}
 use Rattle.key_gen_message.specs.KeyGenMessage.{SignedKeyGenMsgOf, SignedOk}
 use Rattle.message_store.specs.MessageStore.{isRecent, fromEra}
-use Rattle.dynamic_honey_badger.specs.State.{StateOf, eraOf, nodesIn, withCounter, withKeyGen, withStore, withParams, newEra}
+use Rattle.dynamic_honey_badger.specs.State.{StateOf, Stamp, eraOf, nodesIn, withCounter, withKeyGen, withStore, withParams, withLast, newEra}
 use Rattle.steps.specs.Steps as steps
-use Rattle.agreement.specs.Formed.{MapFormed, VotesFormed, RunningFormed, Formed}
+use Rattle.agreement.specs.Formed.{MapFormed, VotesFormed, RunningFormed, StampFits, Formed}
 use Rattle.agreement.proofs.AllLaws.{all-then, filter-none}
 use Rattle.agreement.proofs.FormedParts.{no-votes}
 
@@ -41,6 +41,7 @@ module _ (z : Sizes) (s : StateOf) (f : Formed z s) where
         store-era = f .store-era;
         store-ok = f .store-ok;
         store-within = f .store-within;
+        last-fits = f .last-fits;
       }
 
   pub with-committed : (vs : List SignedVoteOf) → VotesFormed z (nodesIn s) vs → Formed z (withCounter s (withCommitted (s .counter) vs))
@@ -57,6 +58,7 @@ module _ (z : Sizes) (s : StateOf) (f : Formed z s) where
         store-era = f .store-era;
         store-ok = f .store-ok;
         store-within = f .store-within;
+        last-fits = f .last-fits;
       }
 
   pub with-key-gen : (g : Found KeyGenStateOf) → RunningFormed z (s .counter .our-id) g → Formed z (withKeyGen s g)
@@ -73,6 +75,7 @@ module _ (z : Sizes) (s : StateOf) (f : Formed z s) where
         store-era = f .store-era;
         store-ok = f .store-ok;
         store-within = f .store-within;
+        last-fits = f .last-fits;
       }
 
   pub with-params : (p : Params) → ParamsOk p → Formed z (withParams s p)
@@ -89,6 +92,7 @@ module _ (z : Sizes) (s : StateOf) (f : Formed z s) where
         store-era = f .store-era;
         store-ok = f .store-ok;
         store-within = f .store-within;
+        last-fits = f .last-fits;
       }
 
   pub with-store : (ms : List SignedKeyGenMsgOf) → All (λ (m : SignedKeyGenMsgOf). m .era ≡ eraOf s) ms → All (SignedOk z) ms → length ms ≤ z .store → Formed z (withStore s ms)
@@ -105,6 +109,25 @@ module _ (z : Sizes) (s : StateOf) (f : Formed z s) where
         store-era = a;
         store-ok = o;
         store-within = h;
+        last-fits = f .last-fits;
+      }
+
+  -- 02, CR 1: the report that is kept
+  pub with-last : (l : Found Stamp) → StampFits l → Formed z (withLast s l)
+  with-last l h =
+      record {
+        our-id-fits = f .our-id-fits;
+        our-key-fits = f .our-key-fits;
+        era-fits = f .era-fits;
+        nodes-formed = f .nodes-formed;
+        params-ok = f .params-ok;
+        pending-formed = f .pending-formed;
+        committed-formed = f .committed-formed;
+        key-gen-formed = f .key-gen-formed;
+        store-era = f .store-era;
+        store-ok = f .store-ok;
+        store-within = f .store-within;
+        last-fits = h;
       }
 
   -- nothing stored is of a later era
@@ -131,4 +154,5 @@ module _ (z : Sizes) (s : StateOf) (f : Formed z s) where
         store-era = subst (All (λ (x : SignedKeyGenMsgOf). x .era ≡ era)) (sym e) tt;
         store-ok = subst (All (SignedOk z)) (sym e) tt;
         store-within = subst (λ (ms : List SignedKeyGenMsgOf). length ms ≤ z .store) (sym e) (omega arith);
+        last-fits = f .last-fits;
       }

@@ -39,7 +39,7 @@ use Rattle.agreement.proofs.FormedBatch.{map-formed, batch-formed}
 module _ (z : Sizes) (nodes-fit : z .nodes < 256 ^ 8) (rows-fit : z .rows < 256 ^ 8) (user-fits : z .user < 256 ^ 8) where
   -- every call leaves a formed state formed
   pub call-formed : (s : StateOf) (c : Call) → Formed z s → CallFits c → Formed z (after z s c)
-  call-formed s (batch-call b) f fits = batch-formed z s f b nodes-fit rows-fit user-fits (fits .1)
+  call-formed s (batch-call b) f fits = batch-formed z s f b nodes-fit rows-fit user-fits (fits .2)
   call-formed s (vote-call bytes) f fits = vote-for-formed z s f nodes-fit bytes fits
   call-formed s (add-call id key) f fits = vote-to-add-formed z s f id key (fits .0) (fits .1)
   call-formed s (remove-call id) f fits = vote-to-remove-formed z s f id
@@ -67,6 +67,7 @@ opened-formed z id key era ns p i k e m o =
       store-era = tt;
       store-ok = tt;
       store-within = omega arith;
+      last-fits = tt;
     }
 
 module _ (z : Sizes) (nodes-fit : z .nodes < 256 ^ 8) where

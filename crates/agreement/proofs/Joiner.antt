@@ -21,12 +21,13 @@ use Rattle.batch.specs.Batch.{BatchOf, planOfBatch}
 use Rattle.dynamic_honey_badger.specs.State.{StateOf, eraOf, candidateNodes}
 use Rattle.process_output.specs.Process.{BatchCall, ReportOf, processed}
 use Rattle.reference.specs.Reference.{CandidateRef, RefState}
-use Rattle.reference.specs.Step.{RefDecided, decidedRef, newEraRef, SharedBatch, refReady, refCompleted, scheduled, isCandidateRef, refElected, refWinner, refDecide, refRun}
+use Rattle.reference.specs.Step.{RefDecided, decidedRef, newEraRef, SharedBatch, refReady, refCompleted, scheduled, isCandidateRef, refElected, refWinner, refDecide, unlessPassed, refRun}
 use Rattle.agreement.specs.Shared.{refOf, sharedFaults, sharedAnswer, isPassed, planRef}
-use Rattle.agreement.specs.Calls.{Call, batch-call, vote-call, add-call, remove-call, message-call, due-call, after, run, unlessPassed, asShared, sharedBatches, batchCalls, Start, join-start, startState}
+use Rattle.agreement.specs.Calls.{Call, batch-call, vote-call, add-call, remove-call, message-call, due-call, after, run, asShared, sharedBatches, batchCalls, Start, join-start, startState}
 use Rattle.agreement.specs.Claim.{plannedBy, refStart, FollowsFrom}
 use Rattle.agreement.specs.Hypotheses.{beganEra, leftOlder, OfBytes, StartBytes}
 use Rattle.agreement.proofs.KeptLaws.{mapOf}
+use Rattle.agreement.proofs.PassedCalls.{reported-shared}
 use Rattle.agreement.proofs.Follow.{batch-follows, follows}
 use Rattle.agreement.proofs.Reported.{candidateMap, reportOn, batch-reported, left-shared, maps-before, maps-after}
 use Rattle.agreement.proofs.NewEraLaws.{wonBy, era-began}
@@ -94,7 +95,7 @@ module _ (z : Sizes) where
   shared-bytes : (cs : List Call) (s : StateOf) → OfBytes cs → All (λ (b : SharedBatch). Bytes (b .bytes)) (sharedBatches z s cs)
   unfolding sharedBatches batchCalls
   shared-bytes [] s bytes = tt
-  shared-bytes (batch-call b ∷ cs) s bytes = go (isPassed (processed z s b .answer)) (shared-bytes cs (processed z s b .state) (bytes .1))
+  shared-bytes (batch-call b ∷ cs) s bytes = go (isPassed s b (processed z s b .answer)) (shared-bytes cs (processed z s b .state) (bytes .1))
     where
       go : (p : Bool) → All (λ (b : SharedBatch). Bytes (b .bytes)) (sharedBatches z (processed z s b .state) cs)
           → All (λ (b : SharedBatch). Bytes (b .bytes)) (unlessPassed p (asShared b) (sharedBatches z (processed z s b .state) cs))
@@ -120,10 +121,10 @@ module _ (z : Sizes) (fits : z .items ≤ z .faults) (nodes-fit : z .nodes < 256
       subst (RefOk z) (sym (follows z fits before a .0))
       (run-ok z nodes-fit rows-fit user-fits (refOf a) (sharedBatches z a before) (shared-bytes z before a before-bytes) (start-ok z nodes-fit start start-bytes (refOf a) (start-opens z start a starts))) in
       step-ok z nodes-fit rows-fit user-fits (refOf s) (asShared b) batch-bytes o .1 (record { batch = r .batch; faults = sharedFaults (r .faults) })
-      (sym (batch-follows z s b fits (ap isPassed answered) .1) ∙ ap sharedAnswer answered) set set-fits
+      (sym (batch-follows z s b fits (reported-shared z s b r answered) .1) ∙ ap sharedAnswer answered) set set-fits
 
   -- the giver is where the reference state of its whole list is
-  giver-stands : (r₀ : RefState) → refStart z start ≡ found r₀ → refOf (processed z (run z a before) b .state) ≡ refRun z r₀ (sharedBatches z a (before ++ (batch-call b ∷ [])))
+  pub giver-stands : (r₀ : RefState) → refStart z start ≡ found r₀ → refOf (processed z (run z a before) b .state) ≡ refRun z r₀ (sharedBatches z a (before ++ (batch-call b ∷ [])))
   unfolding run
   giver-stands r₀ opens = ap refOf (sym (run-then z before (batch-call b ∷ []) a)) ∙ opened-follows z fits start a starts r₀ opens (before ++ (batch-call b ∷ [])) .0
 

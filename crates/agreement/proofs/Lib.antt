@@ -4,6 +4,7 @@ pub mod ReadingLaws
 pub mod CountLaws
 pub mod DecisionLaws
 pub mod OwnCalls
+pub mod PassedCalls
 pub mod Follow
 pub mod Agree
 pub mod FullLaws
@@ -23,6 +24,7 @@ pub mod FormedBatch
 pub mod FormedLaws
 pub mod FitsLaws
 pub mod RoomLaws
+pub mod LastReports
 pub mod Claims
 pub mod WitnessReading
 pub mod WitnessSteps

@@ -1,4 +1,4 @@
--- Own votes, received messages and due items handed back leave the shared part of a node's state as it is.
+-- Own votes, received messages and due items handed back leave the shared part of a node's state and its last report as they are.
 -- Assumes nothing.
 use Prim.Native.Nat.{ℕ, _+_}
 use mathlib.Core.Path.{_≡_, refl, sym, ap, _∙_}
@@ -28,60 +28,64 @@ use Rattle.dynamic_honey_badger.specs.Received.{HandledOf, handledAs, quiet, fa
 use Rattle.reference.specs.Reference.{CandidateRef}
 use Rattle.agreement.specs.Shared.{candidateRef, refOf}
 
+-- from state s to state t the shared part is kept, and so is the last report
+abbrev pub Keeps : StateOf → StateOf → Type 0
+Keeps s t = (refOf t ≡ refOf s) × (t .last ≡ s .last)
+
 module _ (z : Sizes) (s : StateOf) where
   -- an own vote changes pending votes only
-  vote-kept : (c : ChangeOf) → refOf (voteFor z s c .state) ≡ refOf s
+  vote-kept : (c : ChangeOf) → Keeps s (voteFor z s c .state)
   unfolding voteFor signVoteFor
   vote-kept c = go (isValidator s) (nextNum (mapFound numOf (lookup voterOf (s .counter .pending) (s .counter .our-id))))
     where
-      go : (b : Bool) (x : Outcome ℕ) → refOf (cond {A = VotedOf} b (signedIn s (signedWith z (s .counter) c x)) (votedAs s (done nothing)) .state) ≡ refOf s
-      go true (done n) = refl
-      go true (refused n) = refl
-      go false x = refl
+      go : (b : Bool) (x : Outcome ℕ) → Keeps s (cond {A = VotedOf} b (signedIn s (signedWith z (s .counter) c x)) (votedAs s (done nothing)) .state)
+      go true (done n) = (refl, refl)
+      go true (refused n) = (refl, refl)
+      go false x = (refl, refl)
 
   -- `vote_for`, on bytes
-  pub vote-for-kept : (bytes : List ℕ) → refOf (voteForBytes z s bytes .state) ≡ refOf s
+  pub vote-for-kept : (bytes : List ℕ) → Keeps s (voteForBytes z s bytes .state)
   unfolding voteForBytes
   vote-for-kept bytes = go (whole (readChange fixed z bytes) bytes)
     where
-      go : (x : Read ChangeOf) → refOf (voteForRead z s x .state) ≡ refOf s
+      go : (x : Read ChangeOf) → Keeps s (voteForRead z s x .state)
       go (value c at) = vote-kept c
-      go (refuse n) = refl
+      go (refuse n) = (refl, refl)
 
   -- `vote_to_add`
-  pub vote-to-add-kept : (id key : ℕ) → refOf (voteToAdd z s id key .state) ≡ refOf s
+  pub vote-to-add-kept : (id key : ℕ) → Keeps s (voteToAdd z s id key .state)
   unfolding voteToAdd
   vote-to-add-kept id key = go (eqb key 0) (isValidator s) (row13 z (nodesIn s) id) (nodeChange (withNode z (nodesIn s) (record { id = id; key = key })))
     where
       go : (a b c : Bool) (x : ChangeOf)
-          → refOf (cond {A = VotedOf} a (votedAs s (refused 2)) (cond b (cond c (votedAs s (refused 13)) (voteFor z s x)) (votedAs s (done nothing))) .state) ≡ refOf s
-      go true b c x = refl
-      go false true true x = refl
+          → Keeps s (cond {A = VotedOf} a (votedAs s (refused 2)) (cond b (cond c (votedAs s (refused 13)) (voteFor z s x)) (votedAs s (done nothing))) .state)
+      go true b c x = (refl, refl)
+      go false true true x = (refl, refl)
       go false true false x = vote-kept x
-      go false false c x = refl
+      go false false c x = (refl, refl)
 
   -- `vote_to_remove`
-  pub vote-to-remove-kept : (id : ℕ) → refOf (voteToRemove z s id .state) ≡ refOf s
+  pub vote-to-remove-kept : (id : ℕ) → Keeps s (voteToRemove z s id .state)
   unfolding voteToRemove
   vote-to-remove-kept id = vote-kept (nodeChange (withoutNode (nodesIn s) id))
 
   -- a received vote changes pending votes only
-  pending-kept : (v : SignedVoteOf) → refOf (votedIn s (addPending z (s .counter) v) .state) ≡ refOf s
+  pending-kept : (v : SignedVoteOf) → Keeps s (votedIn s (addPending z (s .counter) v) .state)
   unfolding addPending
   pending-kept v = go (pendingEffect (s .counter) v)
     where
-      go : (e : counter.VoteEffect) → refOf (votedIn s (afterPending z (s .counter) v e) .state) ≡ refOf s
-      go counter.stored = refl
-      go counter.nothing-new = refl
-      go (counter.fault k) = refl
+      go : (e : counter.VoteEffect) → Keeps s (votedIn s (afterPending z (s .counter) v e) .state)
+      go counter.stored = (refl, refl)
+      go counter.nothing-new = (refl, refl)
+      go (counter.fault k) = (refl, refl)
 
   -- a stored message is the node's own
-  stored-kept : (t : StateOf) (x : Outcome (List SignedKeyGenMsgOf)) → refOf t ≡ refOf s → refOf (storedIn s t x .state) ≡ refOf s
+  stored-kept : (t : StateOf) (x : Outcome (List SignedKeyGenMsgOf)) → Keeps s t → Keeps s (storedIn s t x .state)
   stored-kept t (done ms) e = e
-  stored-kept t (refused n) e = refl
+  stored-kept t (refused n) e = (refl, refl)
 
   -- a received key message changes counts and store only
-  counted-kept : (m : SignedKeyGenMsgOf) (n : ℕ) (g : KeyGenStateOf) (x : CountedOf) → s .key-gen ≡ found g → candidateRef (x .state) ≡ candidateRef g → refOf (countedIn z s m n x .state) ≡ refOf s
+  counted-kept : (m : SignedKeyGenMsgOf) (n : ℕ) (g : KeyGenStateOf) (x : CountedOf) → s .key-gen ≡ found g → candidateRef (x .state) ≡ candidateRef g → Keeps s (countedIn z s m n x .state)
   counted-kept m n g x e q = go (ltb (n + 1) (x .count))
     where
       same : refOf (withKeyGen s (found (x .state))) ≡ refOf s
@@ -90,9 +94,9 @@ module _ (z : Sizes) (s : StateOf) where
           (ap found q ∙ ap (mapFound candidateRef) (sym e))
 
       go : (b : Bool)
-          → refOf (cond {A = HandledOf} b (handledAs (withKeyGen s (found (x .state))) (fault TooManyKeyGenMessages)) (storedIn s (withKeyGen s (found (x .state))) (pushed z (s .store) m)) .state) ≡ refOf s
-      go true = same
-      go false = stored-kept (withKeyGen s (found (x .state))) (pushed z (s .store) m) same
+          → Keeps s (cond {A = HandledOf} b (handledAs (withKeyGen s (found (x .state))) (fault TooManyKeyGenMessages)) (storedIn s (withKeyGen s (found (x .state))) (pushed z (s .store) m)) .state)
+      go true = (same, refl)
+      go false = stored-kept (withKeyGen s (found (x .state))) (pushed z (s .store) m) (same, refl)
 
   counts-kept : (g : KeyGenStateOf) (id : ℕ) → candidateRef (countMessages z (nodesIn s) g id .state) ≡ candidateRef g
   unfolding countMessages
@@ -102,46 +106,46 @@ module _ (z : Sizes) (s : StateOf) where
       go (found i) = refl
       go nothing = refl
 
-  key-gen-kept : (m : SignedKeyGenMsgOf) → refOf (receivedKeyGen z s m .state) ≡ refOf s
+  key-gen-kept : (m : SignedKeyGenMsgOf) → Keeps s (receivedKeyGen z s m .state)
   unfolding receivedKeyGen
   key-gen-kept m = go (validSignature s (m .id) (m .sig)) (s .key-gen) refl
     where
-      go : (b : Bool) (g : Found KeyGenStateOf) → s .key-gen ≡ g → refOf (cond {A = HandledOf} b (keyGenIn z s m g) (handledAs s (fault InvalidKeyGenMessageSignature)) .state) ≡ refOf s
+      go : (b : Bool) (g : Found KeyGenStateOf) → s .key-gen ≡ g → Keeps s (cond {A = HandledOf} b (keyGenIn z s m g) (handledAs s (fault InvalidKeyGenMessageSignature)) .state)
       go true (found g) e = counted-kept m (nodeCount (g .key-gen)) g (countMessages z (nodesIn s) g (m .id)) e (counts-kept g (m .id))
-      go true nothing e = refl
-      go false g e = refl
+      go true nothing e = (refl, refl)
+      go false g e = (refl, refl)
 
   -- a received message
-  pub message-kept : (sender : ℕ) (bytes : List ℕ) → refOf (received z s sender bytes .state) ≡ refOf s
+  pub message-kept : (sender : ℕ) (bytes : List ℕ) → Keeps s (received z s sender bytes .state)
   unfolding received receivedContent
   message-kept sender bytes = go (whole (readMessage z bytes) bytes)
     where
-      now : (x : MessageContent) → refOf (receivedNow z s sender x .state) ≡ refOf s
+      now : (x : MessageContent) → Keeps s (receivedNow z s sender x .state)
       now (keyGen era m sig) = key-gen-kept (signedBy era sender m sig)
       now (signedVote v) = pending-kept v
 
       by-era : (a b : Bool) (x : MessageContent)
-          → refOf (cond {A = HandledOf} a (handledAs s (fault UnexpectedDhbMessageEra)) (cond b (handledAs s quiet) (receivedNow z s sender x)) .state) ≡ refOf s
-      by-era true b x = refl
-      by-era false true x = refl
+          → Keeps s (cond {A = HandledOf} a (handledAs s (fault UnexpectedDhbMessageEra)) (cond b (handledAs s quiet) (receivedNow z s sender x)) .state)
+      by-era true b x = (refl, refl)
+      by-era false true x = (refl, refl)
       by-era false false x = now x
 
-      go : (x : Read MessageContent) → refOf (receivedRead z s sender x .state) ≡ refOf s
+      go : (x : Read MessageContent) → Keeps s (receivedRead z s sender x .state)
       go (value x c) = by-era (ltb (eraOf s) (messageEra x)) (ltb (messageEra x) (eraOf s)) x
-      go (refuse n) = refl
+      go (refuse n) = (refl, refl)
 
   -- a due item handed back
-  pub due-kept : (bytes : List ℕ) → refOf (returned z s bytes .state) ≡ refOf s
+  pub due-kept : (bytes : List ℕ) → Keeps s (returned z s bytes .state)
   unfolding returned returnedKeyGen
   due-kept bytes = go (whole (readDueItem z bytes) bytes)
     where
       by-era : (a b : Bool) (m : SignedKeyGenMsgOf)
-          → refOf (cond {A = HandledOf} a (cond b (storedIn s s (pushed z (s .store) m)) (handledAs s quiet)) (handledAs s quiet) .state) ≡ refOf s
-      by-era true true m = stored-kept s (pushed z (s .store) m) refl
-      by-era true false m = refl
-      by-era false b m = refl
+          → Keeps s (cond {A = HandledOf} a (cond b (storedIn s s (pushed z (s .store) m)) (handledAs s quiet)) (handledAs s quiet) .state)
+      by-era true true m = stored-kept s (pushed z (s .store) m) (refl, refl)
+      by-era true false m = (refl, refl)
+      by-era false b m = (refl, refl)
 
-      go : (x : Read MessageContent) → refOf (returnedRead z s x .state) ≡ refOf s
+      go : (x : Read MessageContent) → Keeps s (returnedRead z s x .state)
       go (value (keyGen era m sig) c) = by-era (eqb era (eraOf s)) (isValidator s) (signedBy era (s .counter .our-id) m sig)
-      go (value (signedVote v) c) = refl
-      go (refuse n) = refl
+      go (value (signedVote v) c) = (refl, refl)
+      go (refuse n) = (refl, refl)

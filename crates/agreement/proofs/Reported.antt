@@ -3,7 +3,6 @@
 use Prim.Native.Nat.{ℕ, _+_, _≤_}
 use mathlib.Core.Path.{_≡_, refl, sym, ap, _∙_}
 use mathlib.Core.List.{List}
-use mathlib.Core.Bool.{Bool, true, false, cond}
 use Rattle.lists.specs.Lists.{Found, found, nothing, mapFound}
 use Rattle.bincode.specs.Read.{Read, value, refuse}
 use Rattle.bincode.specs.Outcome.{done}
@@ -15,10 +14,12 @@ use Rattle.internal_contrib.specs.InternalContrib.{ContribOf, readBatch}
 use Rattle.dynamic_honey_badger.specs.State.{StateOf, eraOf, candidateNodes}
 use Rattle.process_output.specs.Process.{BatchCall, ReportOf, processed}
 use Rattle.reference.specs.Reference.{RefState}
-use Rattle.reference.specs.Step.{RefDecided, RefReport, RefAnswer, SharedBatch, refContribs, refDecide, refRow5, refRow6, refRow7, deniedRef, reportedRef, refSteps, refBatch, refRead, refStep}
-use Rattle.agreement.specs.Shared.{candidateRef, refOf, sharedFaults, sharedAnswer, isPassed}
+use Rattle.reference.specs.Step.{RefDecided, RefReport, RefAnswer, SharedBatch, refContribs, refDecide, refSteps, refBatch, refRead, refStep}
+use Rattle.reference.proofs.ReportLaws.{tests}
+use Rattle.agreement.specs.Shared.{candidateRef, refOf, sharedFaults, sharedAnswer}
 use Rattle.agreement.specs.Calls.{asShared}
 use Rattle.agreement.proofs.KeptLaws.{all-any, mapOf, Kept, contribs-keep}
+use Rattle.agreement.proofs.PassedCalls.{reported-shared}
 use Rattle.agreement.proofs.Follow.{batch-follows}
 use Rattle.agreement.proofs.Agree.{done-refused}
 
@@ -40,8 +41,8 @@ pub record Reported (s : RefState) (inner : ℕ) (a : RefAnswer) (batch : BatchO
 
 module _ (z : Sizes) (s : RefState) where
   contribs-reported : (inner : ℕ) (cs : List ContribOf) (x : RefReport) → refBatch z s inner cs .answer ≡ done x → Reported s inner (refBatch z s inner cs) (x .batch)
-  unfolding refBatch refSteps
-  contribs-reported inner cs x = go (refRow5 (s .era + inner)) (refRow6 s cs) (refRow7 z s cs)
+  unfolding refSteps
+  contribs-reported inner cs x = tests z s inner cs (λ a. a .answer ≡ done x → Reported s inner a (x .batch)) (λ n e. absurd (done-refused e)) (λ h. taken)
     where
       t : RefState
       t = refContribs z s cs .state
@@ -52,13 +53,8 @@ module _ (z : Sizes) (s : RefState) where
       kept : Kept (λ v. Unit {0}) s t
       kept = contribs-keep (λ v. Unit {0}) z s cs (all-any _ (λ c. all-any _ (λ v. tt) (c .votes)) cs)
 
-      go : (r5 r6 r7 : Bool)
-          → cond {A = RefAnswer} r5 (deniedRef s 5) (cond r6 (deniedRef s 6) (cond r7 (deniedRef s 7) (reportedRef s (s .era + inner) (refContribs z s cs .faults) d))) .answer ≡ done x
-          → Reported s inner (cond r5 (deniedRef s 5) (cond r6 (deniedRef s 6) (cond r7 (deniedRef s 7) (reportedRef s (s .era + inner) (refContribs z s cs .faults) d)))) (x .batch)
-      go true r6 r7 e = absurd (done-refused e)
-      go false true r7 e = absurd (done-refused e)
-      go false false true e = absurd (done-refused e)
-      go false false false e =
+      taken : refSteps z s (s .era + inner) cs .answer ≡ done x → Reported s inner (refSteps z s (s .era + inner) cs) (x .batch)
+      taken e =
           let q : record { batch = reportOn s (s .era + inner) d; faults = refContribs z s cs .faults } ≡ x = cc in
           record { middle = t; same-era = kept .era; same-map = kept .candidate; state-is = refl; batch-is = sym (ap (λ (y : RefReport). y .batch) q) }
 
@@ -79,10 +75,10 @@ module _ (z : Sizes) (fits : z .items ≤ z .faults) (s : StateOf) (b : BatchCal
   pub batch-reported : Reported (refOf s) (b .inner) (refStep z (refOf s) (asShared b)) (r .batch)
   batch-reported =
       step-reported z (refOf s) (asShared b) (record { batch = r .batch; faults = sharedFaults (r .faults) })
-      (sym (batch-follows z s b fits (ap isPassed answered) .1) ∙ ap sharedAnswer answered)
+      (sym (batch-follows z s b fits (reported-shared z s b r answered) .1) ∙ ap sharedAnswer answered)
 
   pub left-shared : refOf (processed z s b .state) ≡ refDecide (eraOf s + b .inner + 1) (batch-reported .middle) .state
-  left-shared = batch-follows z s b fits (ap isPassed answered) .0 ∙ batch-reported .state-is
+  left-shared = batch-follows z s b fits (reported-shared z s b r answered) .0 ∙ batch-reported .state-is
 
   -- the candidate maps before and after it
   pub maps-before : candidateNodes (s .key-gen) ≡ candidateMap (batch-reported .middle)

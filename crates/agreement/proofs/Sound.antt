@@ -34,8 +34,9 @@ use Rattle.internal_contrib.specs.InternalContrib.{ContribOf, readBatch, spendi
 use Rattle.internal_contrib.proofs.ContribCodes.{batch-one-encoding}
 use Rattle.reference.specs.Reference.{CandidateRef, RefState}
 use Rattle.reference.specs.Winner.{choiceOf}
-use Rattle.reference.specs.Step.{RefDecided, decidedRef, newEraRef, RefReport, RefAnswer, SharedBatch, refContribs, refReady, refCompleted, isCandidateRef, refElected, refWinner, refDecide, refRow5, refRow6, refRow7, deniedRef, reportedRef, refSteps, refBatch, refRead, refStep, refRun}
+use Rattle.reference.specs.Step.{RefDecided, decidedRef, newEraRef, RefReport, RefAnswer, SharedBatch, refContribs, refReady, refCompleted, isCandidateRef, refElected, refWinner, refDecide, refRow5, deniedRef, refSteps, refBatch, refRead, passesOver, refStep, refAfter, refRun}
 use Rattle.reference.proofs.WinnerLaws.{winner-is}
+use Rattle.reference.proofs.ReportLaws.{tests}
 use Rattle.agreement.specs.Shared.{planCandidate, planRef}
 use Rattle.agreement.specs.Calls.{Start, new-start, join-start}
 use Rattle.agreement.specs.Claim.{openedBy, plannedBy, refStart}
@@ -139,8 +140,8 @@ module _ (z : Sizes) where
 
   module _ (nodes-fit : z .nodes < 256 ^ 8) (rows-fit : z .rows < 256 ^ 8) (user-fits : z .user < 256 ^ 8) where
     contribs-ok : (s : RefState) (inner : ℕ) (cs : List ContribOf) → All (λ c. All VotesFor (c .votes)) cs → RefOk s → AnswerOk (refBatch z s inner cs)
-    unfolding refBatch refSteps
-    contribs-ok s inner cs votes o = go (refRow5 (s .era + inner)) refl (refRow6 s cs) (refRow7 z s cs)
+    unfolding refSteps
+    contribs-ok s inner cs votes o = tests z s inner cs AnswerOk (λ n. denied-ok s n o) reported
       where
         t : RefState
         t = refContribs z s cs .state
@@ -151,7 +152,7 @@ module _ (z : Sizes) where
         d-ok : DecidedOk d
         d-ok = decide-ok (s .era + inner + 1) t (kept-ok s t (contribs-keep VotesFor z s cs votes) o)
 
-        reported : refRow5 (s .era + inner) ≡ false → AnswerOk (reportedRef s (s .era + inner) (refContribs z s cs .faults) d)
+        reported : refRow5 (s .era + inner) ≡ false → AnswerOk (refSteps z s (s .era + inner) cs)
         reported h = (
           d-ok .0,
           λ x e set fits.
@@ -166,13 +167,6 @@ module _ (z : Sizes) where
               }),
         )
 
-        go : (r5 : Bool) → refRow5 (s .era + inner) ≡ r5 → (r6 r7 : Bool)
-            → AnswerOk (cond r5 (deniedRef s 5) (cond r6 (deniedRef s 6) (cond r7 (deniedRef s 7) (reportedRef s (s .era + inner) (refContribs z s cs .faults) d))))
-        go true h r6 r7 = denied-ok s 5 o
-        go false h true r7 = denied-ok s 6 o
-        go false h false true = denied-ok s 7 o
-        go false h false false = reported h
-
     pub step-ok : (s : RefState) (b : SharedBatch) → Bytes (b .bytes) → RefOk s → AnswerOk (refStep z s b)
     unfolding refStep
     step-ok s b bytes o = go (readBatch z (b .bytes)) refl
@@ -186,7 +180,11 @@ module _ (z : Sizes) where
     pub run-ok : (s : RefState) (bs : List SharedBatch) → All (λ b. Bytes (b .bytes)) bs → RefOk s → RefOk (refRun z s bs)
     unfolding refRun
     run-ok s [] bytes o = o
-    run-ok s (b ∷ bs) bytes o = run-ok (refStep z s b .state) bs (bytes .1) (step-ok s b (bytes .0) o .0)
+    run-ok s (b ∷ bs) bytes o = run-ok (refAfter z s b) bs (bytes .1) (go (passesOver s b))
+      where
+        go : (p : Bool) → RefOk (cond p s (refStep z s b .state))
+        go true = o
+        go false = step-ok s b (bytes .0) o .0
 
   -- the starts: `new`, and joining
   plan-ok : (p : PlanOf) → PlanOk z p → RefOk (planRef p)

@@ -1,8 +1,8 @@
 -- The hypotheses of the claims hold of the witnesses, so the claims say something of them.
 -- Assumes nothing.
 use Prim.Native.Nat.{ℕ, _≤_}
-use mathlib.Core.Path.{_≡_, refl, ap, subst}
-use mathlib.Core.List.{List, [], _∷_}
+use mathlib.Core.Path.{_≡_, refl, sym, ap, _∙_, subst}
+use mathlib.Core.List.{List, [], _∷_, _++_}
 use mathlib.Core.Bool.{false, true}
 use lib.ListN.{length}
 use native.Mathlib.Omega.{arith}
@@ -16,23 +16,30 @@ use Rattle.params.specs.Params.{paramsBytes}
 use Rattle.due.specs.declared.DueKind.the-variants.{Part}
 use Rattle.internal_contrib.specs.InternalContrib.{ContribOf, readBatch, batchBytes}
 use Rattle.internal_contrib.specs.Places.{messageCount}
+use Rattle.dynamic_honey_badger.specs.Asked.{lastReport}
 use Rattle.dynamic_honey_badger.specs.State.{eraOf, candidateNodes}
 use Rattle.process_output.specs.Process.{ProcessedOf, processed}
-use Rattle.agreement.specs.Calls.{batch-call, run, batchCalls}
+use Rattle.reference.specs.Reference.{RefState}
+use Rattle.reference.specs.Step.{refRun, refTaken}
+use Rattle.reference.proofs.PassedLaws.{other-taken}
+use Rattle.agreement.specs.Shared.{refOf}
+use Rattle.agreement.specs.Calls.{batch-call, run, asShared, batchCalls, givenBatches, reports, lastStamp}
 use Rattle.agreement.specs.Hypotheses.{FullBatch, Full, beganEra, leftOlder, OfBytes, StartBytes}
-use Rattle.agreement.specs.Claim.{Agree}
+use Rattle.agreement.specs.Claim.{Agree, SameOutcome}
 use Rattle.agreement.specs.Formed.{Formed, CallFits, StartFits}
-use Rattle.agreement.specs.Witness.{alone, params, giverStart, adding, completing, batchOf, addBatch, completeBatch, callsBefore, callsAfter, everyCall, opened, added, ended, addReport, joinerBatch, planBuffer, keySet, planLength, joinerOpened, observerOpened, observerCalls}
-use Rattle.agreement.proofs.Claims.{reached-states-formed, one-start-agrees, joiner-agrees}
+use Rattle.agreement.specs.Witness.{alone, params, giverStart, adding, completing, batchOf, addBatch, lateBatch, completeStamp, completeBatch, callsBefore, callsAfter, everyCall, opened, added, ended, addReport, joinerBatch, planBuffer, keySet, planLength, joinerOpened, observerOpened, observerCalls, slowCalls}
+use Rattle.agreement.proofs.Agree.{start-opens}
+use Rattle.agreement.proofs.Joiner.{run-then}
+use Rattle.agreement.proofs.Claims.{reached-states-formed, one-start-agrees, one-start-agrees-given, joiner-agrees-given, full-replica-follows, other-era-left-out, last-report-told}
 use Rattle.agreement.proofs.WitnessReading.{bytes-are, map-bytes, params-bytes, asked-bytes, part-due-bytes, part-sent-bytes, vote-sent-bytes, adding-bytes, adding-read, completing-bytes, completing-read}
 use Rattle.agreement.proofs.WitnessSteps.{starts, observer-starts}
 use Rattle.agreement.proofs.WitnessCalls.{before-leads, every-call-accepted}
 use Rattle.agreement.proofs.WitnessJoiner.{reported, plan-answered, plan-joined}
 
 -- a batch that is read, with as many verdicts as it has key messages, none over 3
-full-batch : (inner : ℕ) (c : ContribOf) (verdicts : List ℕ) (n : ℕ) → readBatch base (batchBytes (c ∷ [])) ≡ value (c ∷ []) n
-    → length verdicts ≡ messageCount (c ∷ []) → All (λ (v : ℕ). v ≤ 3) verdicts → FullBatch base (batchOf inner c verdicts)
-full-batch inner c verdicts n r q h =
+full-batch : (era inner : ℕ) (c : ContribOf) (verdicts : List ℕ) (n : ℕ) → readBatch base (batchBytes (c ∷ [])) ≡ value (c ∷ []) n
+    → length verdicts ≡ messageCount (c ∷ []) → All (λ (v : ℕ). v ≤ 3) verdicts → FullBatch base (batchOf era inner c verdicts)
+full-batch era inner c verdicts n r q h =
     record {
       faults-lent = omega arith;
       due-lent = omega arith;
@@ -41,15 +48,19 @@ full-batch inner c verdicts n r q h =
 
 pub add-full : FullBatch base addBatch
 unfolding messageCount
-add-full = full-batch 3 adding [] _ adding-read refl tt
+add-full = full-batch 5 3 adding [] _ adding-read refl tt
+
+pub late-full : FullBatch base lateBatch
+unfolding messageCount
+late-full = full-batch 5 4 adding [] _ adding-read refl tt
 
 pub complete-full : FullBatch base completeBatch
 unfolding messageCount
-complete-full = full-batch 2 completing (0 ∷ 0 ∷ 0 ∷ 0 ∷ []) _ completing-read refl (omega arith, (omega arith, (omega arith, (omega arith, tt))))
+complete-full = full-batch 9 2 completing (0 ∷ 0 ∷ 0 ∷ 0 ∷ []) _ completing-read refl (omega arith, (omega arith, (omega arith, (omega arith, tt))))
 
 pub joiner-full : FullBatch base joinerBatch
 unfolding messageCount
-joiner-full = full-batch 2 completing (0 ∷ 0 ∷ 3 ∷ 0 ∷ []) _ completing-read refl (omega arith, (omega arith, (omega arith, (omega arith, tt))))
+joiner-full = full-batch 9 2 completing (0 ∷ 0 ∷ 3 ∷ 0 ∷ []) _ completing-read refl (omega arith, (omega arith, (omega arith, (omega arith, tt))))
 
 -- the hypotheses of the claims hold of start and calls
 pub start-fits : StartFits giverStart
@@ -59,10 +70,10 @@ pub start-bytes : StartBytes giverStart
 start-bytes = (map-bytes, params-bytes)
 
 pub add-fits : CallFits (batch-call addBatch)
-add-fits = (omega arith, adding-bytes, bytes-are [] refl)
+add-fits = (omega arith, omega arith, adding-bytes, bytes-are [] refl)
 
 pub complete-fits : CallFits (batch-call completeBatch)
-complete-fits = (omega arith, completing-bytes, bytes-are (0 ∷ 0 ∷ 0 ∷ 0 ∷ []) refl)
+complete-fits = (omega arith, omega arith, completing-bytes, bytes-are (0 ∷ 0 ∷ 0 ∷ 0 ∷ []) refl)
 
 pub calls-fit : All CallFits everyCall
 calls-fit = (asked-bytes, ((omega arith, omega arith), (add-fits, (part-due-bytes, ((omega arith, part-sent-bytes), (complete-fits, (omega arith, ((omega arith, vote-sent-bytes), tt))))))))
@@ -96,14 +107,46 @@ ended-formed = subst (Formed base) (every-call-accepted .1) (reached-states-form
 pub giver-and-observer : Agree base opened everyCall observerOpened observerCalls
 unfolding batchCalls
 giver-and-observer =
-    one-start-agrees 1 11 3 13 5 (mapBytes fixed alone) (paramsBytes fixed params) opened observerOpened starts observer-starts everyCall observerCalls every-call-full
+    one-start-agrees-given 1 11 3 13 5 (mapBytes fixed alone) (paramsBytes fixed params) opened observerOpened starts observer-starts everyCall observerCalls every-call-full
     (add-full, (joiner-full, tt)) refl
+
+-- 02, CR 1: the reference state is in era 9 after the first batch, so it passes over the late one
+first-leads : refRun base (refOf opened) (asShared addBatch ∷ []) ≡ refOf added
+unfolding batchCalls run
+first-leads =
+    sym (full-replica-follows (callsBefore ++ (batch-call addBatch ∷ [])) opened (add-full, tt) .0)
+    ∙ ap refOf (run-then base callsBefore (batch-call addBatch ∷ []) opened ∙ ap (λ (x : ProcessedOf). x .state) reported)
+
+late-struck : refTaken base (refOf opened) (givenBatches everyCall) ≡ refTaken base (refOf opened) (givenBatches slowCalls)
+unfolding batchCalls
+late-struck =
+    sym (other-taken base (refOf opened) (asShared addBatch ∷ []) (asShared completeBatch ∷ []) (asShared lateBatch)
+    (λ q. let era : refRun base (refOf opened) (asShared addBatch ∷ []) .era ≡ 9 = ap (λ (r : RefState). r .era) first-leads in let no : ⊥ = omega arith in no))
+
+-- so the giver and one that was handed it agree too
+pub giver-and-slow : Agree base opened everyCall observerOpened slowCalls
+unfolding batchCalls
+giver-and-slow =
+    one-start-agrees 1 11 3 13 5 (mapBytes fixed alone) (paramsBytes fixed params) opened observerOpened starts observer-starts everyCall slowCalls
+    (refOf opened) (start-opens base giverStart opened starts) every-call-full (add-full, (late-full, (joiner-full, tt))) late-struck
+
+-- and at the giver itself the late batch, put behind the first one, changes nothing
+pub giver-handed-late : SameOutcome base opened (callsBefore ++ (batch-call addBatch ∷ (batch-call lateBatch ∷ callsAfter))) everyCall
+unfolding run
+giver-handed-late =
+    other-era-left-out (callsBefore ++ (batch-call addBatch ∷ [])) callsAfter opened lateBatch
+    (λ q. let era : eraOf (run base opened (callsBefore ++ (batch-call addBatch ∷ []))) ≡ 9 =
+    ap eraOf (run-then base callsBefore (batch-call addBatch ∷ []) opened ∙ ap (λ (x : ProcessedOf). x .state) reported) in let no : ⊥ = omega arith in no)
+
+-- the last report at the end is that of the second batch, with the era that it met
+pub ended-last : lastStamp (reports base opened everyCall) ≡ completeStamp
+ended-last = sym (last-report-told giverStart opened starts everyCall) ∙ ap lastReport (every-call-accepted .1)
 
 -- and so do giver and joiner, over the batches behind the plan's
 pub giver-and-joiner : Agree base added callsAfter joinerOpened (batch-call joinerBatch ∷ [])
 unfolding batchCalls
 giver-and-joiner =
     subst (λ (x : ProcessedOf). Agree base (x .state) callsAfter joinerOpened (batch-call joinerBatch ∷ [])) reported
-    (joiner-agrees giverStart start-bytes opened starts callsBefore before-bytes addBatch adding-bytes addReport (ap (λ (x : ProcessedOf). x .answer) reported) began left-none keySet (omega arith)
+    (joiner-agrees-given giverStart start-bytes opened starts callsBefore before-bytes addBatch adding-bytes addReport (ap (λ (x : ProcessedOf). x .answer) reported) began left-none keySet (omega arith)
     planBuffer planLength plan-answered (base .due) 2 12 (record { state = joinerOpened; due = record { kind = Part; era = 9 } ∷ [] }) plan-joined
     callsAfter (batch-call joinerBatch ∷ []) after-full (joiner-full, tt) refl)

@@ -32,7 +32,7 @@ use Rattle.agreement.specs.Shared.{refOf}
 use Rattle.agreement.specs.Calls.{Call, batch-call, run, sharedBatches, Start, join-start, joinedState, startState}
 use Rattle.agreement.specs.Claim.{refStart, FollowsFrom, Agree}
 use Rattle.agreement.specs.Hypotheses.{beganEra, leftOlder, OfBytes, StartBytes}
-use Rattle.agreement.proofs.Agree.{done-refused, start-opens, opened-follows, follow-one}
+use Rattle.agreement.proofs.Agree.{done-refused, start-opens, opened-stands, opened-follows, follow-one}
 use Rattle.agreement.proofs.Joiner.{plan-of-report, plan-starts, giver-follows}
 
 -- the longest plan: era; two tags and a map; a map; key set; parameters with the longest schedule
@@ -111,6 +111,12 @@ module _ (z : Sizes) (fits : z .items ≤ z .faults) (nodes-fit : z .nodes < 256
       ∙ plan-starts z fits nodes-fit rows-fit user-fits start start-bytes a starts before before-bytes b batch-bytes r answered began fresh set set-fits r₀ opens places id key
 
   module _ (j : Joined) (joins : joined z places id key (take n (planLeft z l (r .batch) set)) ≡ done j) where
+    -- is there where it joined
+    pub joiner-stands : (r₀ : RefState) → refStart z start ≡ found r₀ → refOf (j .state) ≡ refRun z r₀ (sharedBatches z a (before ++ (batch-call b ∷ [])))
+    joiner-stands r₀ opens =
+        opened-stands z (join-start places id key (take n (planLeft z l (r .batch) set))) (j .state) (ap joinedState joins)
+        (refRun z r₀ (sharedBatches z a (before ++ (batch-call b ∷ [])))) (written-plan-starts r₀ opens)
+
     -- and follows it
     pub joiner-follows : (r₀ : RefState) → refStart z start ≡ found r₀
         → (ds : List Call) → FollowsFrom z (refRun z r₀ (sharedBatches z a (before ++ (batch-call b ∷ [])))) (j .state) ds

@@ -1,19 +1,19 @@
 -- A node's whole list of calls: what the host passes, what each call leaves, and which batches of it are shared.
 use Prim.Native.Nat.{ℕ}
 use mathlib.Core.List.{List, [], _∷_, map}
-use mathlib.Core.Bool.{Bool, cond}
+use Rattle.lists.specs.Lists.{Found, found, nothing}
 use Rattle.bincode.specs.Outcome.{Outcome, done, refused}
 use Rattle.bincode.specs.Sizes.{Sizes}
-use Rattle.dynamic_honey_badger.specs.State.{StateOf, started, joined, Joined}
+use Rattle.dynamic_honey_badger.specs.State.{StateOf, Stamp, started, joined, Joined}
 use Rattle.dynamic_honey_badger.specs.OwnVotes.{voteForBytes, voteToAdd, voteToRemove}
 use Rattle.dynamic_honey_badger.specs.Received.{received, returned}
-use Rattle.process_output.specs.Process.{BatchCall, processed}
-use Rattle.reference.specs.Step.{SharedBatch, RefReport}
+use Rattle.process_output.specs.Process.{BatchCall, ReportOf, processed}
+use Rattle.reference.specs.Step.{SharedBatch, RefReport, unlessPassed}
 use Rattle.agreement.specs.Shared.{isPassed, sharedAnswer}
 
 -- each call as its contract cites it
 pub data Call : Type 0 where
-  -- inner epoch, batch bytes, verdict bytes, both lent lengths
+  -- era and inner epoch, batch bytes, verdict bytes, both lent lengths
   batch-call : BatchCall → Call
   -- own votes: a change as bytes; an id with its key; an id
   vote-call : List ℕ → Call
@@ -37,18 +37,14 @@ unfoldable pub run : Sizes → StateOf → List Call → StateOf
 run z s [] = s
 run z s (c ∷ cs) = run z (after z s c) cs
 
--- the shared batches of a list, told by each call's answer
-module _ {A : Type 0} where
-  abbrev pub unlessPassed : Bool → A → List A → List A
-  unlessPassed passed x xs = cond passed xs (x ∷ xs)
-
+-- the shared batches of a list: those that are not passed over, each with its era and inner epoch
 abbrev pub asShared : BatchCall → SharedBatch
-asShared b = record { inner = b .inner; bytes = b .bytes }
+asShared b = record { era = b .era; inner = b .inner; bytes = b .bytes }
 
 unfoldable pub sharedBatches : Sizes → StateOf → List Call → List SharedBatch
 sharedBatches z s [] = []
 sharedBatches z s (batch-call b ∷ cs) =
-    unlessPassed (isPassed (processed z s b .answer)) (asShared b) (sharedBatches z (processed z s b .state) cs)
+    unlessPassed (isPassed s b (processed z s b .answer)) (asShared b) (sharedBatches z (processed z s b .state) cs)
 sharedBatches z s (vote-call bytes ∷ cs) = sharedBatches z (after z s (vote-call bytes)) cs
 sharedBatches z s (add-call id key ∷ cs) = sharedBatches z (after z s (add-call id key)) cs
 sharedBatches z s (remove-call id ∷ cs) = sharedBatches z (after z s (remove-call id)) cs
@@ -59,7 +55,7 @@ sharedBatches z s (due-call bytes ∷ cs) = sharedBatches z (after z s (due-call
 unfoldable pub answers : Sizes → StateOf → List Call → List (Outcome RefReport)
 answers z s [] = []
 answers z s (batch-call b ∷ cs) =
-    unlessPassed (isPassed (processed z s b .answer)) (sharedAnswer (processed z s b .answer)) (answers z (processed z s b .state) cs)
+    unlessPassed (isPassed s b (processed z s b .answer)) (sharedAnswer (processed z s b .answer)) (answers z (processed z s b .state) cs)
 answers z s (vote-call bytes ∷ cs) = answers z (after z s (vote-call bytes)) cs
 answers z s (add-call id key ∷ cs) = answers z (after z s (add-call id key)) cs
 answers z s (remove-call id ∷ cs) = answers z (after z s (remove-call id)) cs
@@ -78,6 +74,29 @@ batchCalls (due-call bytes ∷ cs) = batchCalls cs
 
 abbrev pub givenBatches : List Call → List SharedBatch
 givenBatches cs = map asShared (batchCalls cs)
+
+-- the reports that the batch calls of a list returned, in order, and the stamp that the last of them has
+module _ {A : Type 0} where
+  abbrev pub reportThen : Outcome A → List A → List A
+  reportThen (done r) rs = r ∷ rs
+  reportThen (refused n) rs = rs
+
+unfoldable pub reports : Sizes → StateOf → List Call → List ReportOf
+reports z s [] = []
+reports z s (batch-call b ∷ cs) = reportThen (processed z s b .answer) (reports z (processed z s b .state) cs)
+reports z s (vote-call bytes ∷ cs) = reports z (after z s (vote-call bytes)) cs
+reports z s (add-call id key ∷ cs) = reports z (after z s (add-call id key)) cs
+reports z s (remove-call id ∷ cs) = reports z (after z s (remove-call id)) cs
+reports z s (message-call sender bytes ∷ cs) = reports z (after z s (message-call sender bytes)) cs
+reports z s (due-call bytes ∷ cs) = reports z (after z s (due-call bytes)) cs
+
+abbrev pub stampOf : ReportOf → Stamp
+stampOf r = record { epoch = r .batch .epoch; era = r .batch .era }
+
+unfoldable pub lastStamp : List ReportOf → Found Stamp
+lastStamp [] = nothing
+lastStamp (r ∷ []) = found (stampOf r)
+lastStamp (r ∷ (q ∷ rs)) = lastStamp (q ∷ rs)
 
 -- how a node starts: `new`, or joining
 pub data Start : Type 0 where

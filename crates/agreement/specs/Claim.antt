@@ -15,7 +15,7 @@ use Rattle.dynamic_honey_badger.specs.State.{StateOf}
 use Rattle.reference.specs.Reference.{RefState, openRef}
 use Rattle.reference.specs.Step.{refRun, refAnswers}
 use Rattle.agreement.specs.Shared.{refOf, planRef}
-use Rattle.agreement.specs.Calls.{Call, run, sharedBatches, answers, Start, new-start, join-start}
+use Rattle.agreement.specs.Calls.{Call, run, sharedBatches, answers, reports, Start, new-start, join-start}
 
 -- 01, "What two boxes share": the reference state that a start opens, by map, era and parameters, a joiner's by its plan. Own id, own key and lent places do not
 -- occur. Nothing, where the bytes cannot be read.
@@ -45,3 +45,8 @@ pub record FollowsStart (z : Sizes) (start : Start) (s : StateOf) (cs : List Cal
 -- the claim of two nodes and their lists of calls: the same shared part after them, and the same answers
 abbrev pub Agree : Sizes → StateOf → List Call → StateOf → List Call → Type 0
 Agree z s cs t ds = (refOf (run z s cs) ≡ refOf (run z t ds)) × (answers z s cs ≡ answers z t ds)
+
+-- the claim of 02, CR 1, of two lists of calls from one state: the same state after them, the same shared batches, answers and reports
+abbrev pub SameOutcome : Sizes → StateOf → List Call → List Call → Type 0
+SameOutcome z s cs ds =
+    (run z s cs ≡ run z s ds) × (sharedBatches z s cs ≡ sharedBatches z s ds) × (answers z s cs ≡ answers z s ds) × (reports z s cs ≡ reports z s ds)

@@ -15,7 +15,7 @@ use Rattle.votes.specs.Votes.{SignedVoteOf, SignedVoteOk}
 use Rattle.key_gen.specs.KeyGen.{ProposalOf}
 use Rattle.key_gen_state.specs.KeyGenState.{KeyGenStateOf}
 use Rattle.key_gen_message.specs.KeyGenMessage.{SignedKeyGenMsgOf, SignedOk}
-use Rattle.dynamic_honey_badger.specs.State.{StateOf, eraOf, nodesIn}
+use Rattle.dynamic_honey_badger.specs.State.{StateOf, Stamp, eraOf, nodesIn}
 use Rattle.agreement.specs.Calls.{Call, batch-call, vote-call, add-call, remove-call, message-call, due-call, Start, new-start, join-start}
 
 -- a map: within its limit, ascending, without key 0, and not empty
@@ -53,6 +53,10 @@ abbrev pub RunningFormed : Sizes → ℕ → Found KeyGenStateOf → Type 0
 RunningFormed z id (found g) = KeyGenFormed z id g
 RunningFormed z id nothing = Unit {0}
 
+abbrev pub StampFits : Found Stamp → Type 0
+StampFits (found l) = (l .epoch < 256 ^ 8) × (l .era < 256 ^ 8)
+StampFits nothing = Unit {0}
+
 pub record Formed (z : Sizes) (s : StateOf) : Type 0 where
   pub our-id-fits : s .counter .our-id < 256 ^ 4
   pub our-key-fits : s .counter .our-key < 256 ^ 8
@@ -66,10 +70,12 @@ pub record Formed (z : Sizes) (s : StateOf) : Type 0 where
   pub store-era : All (λ (m : SignedKeyGenMsgOf). m .era ≡ eraOf s) (s .store)
   pub store-ok : All (SignedOk z) (s .store)
   pub store-within : length (s .store) ≤ z .store
+  -- epoch and era of the last report are u64
+  pub last-fits : StampFits (s .last)
 
 -- calls as a host can make them: bytes are bytes, ids are u32, other numbers u64
 abbrev pub CallFits : Call → Type 0
-CallFits (batch-call b) = (b .inner < 256 ^ 8) × Bytes (b .bytes) × Bytes (b .verdicts)
+CallFits (batch-call b) = (b .era < 256 ^ 8) × (b .inner < 256 ^ 8) × Bytes (b .bytes) × Bytes (b .verdicts)
 CallFits (vote-call bytes) = Bytes bytes
 CallFits (add-call id key) = (id < 256 ^ 4) × (key < 256 ^ 8)
 CallFits (remove-call id) = id < 256 ^ 4

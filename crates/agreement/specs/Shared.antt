@@ -16,11 +16,12 @@ use Rattle.key_gen.specs.KeyGen.{ProposalOf}
 use Rattle.key_gen_state.specs.KeyGenState.{KeyGenStateOf}
 use Rattle.join_plan.specs.JoinPlan.{PlanOf}
 use Rattle.dynamic_honey_badger.specs.State.{StateOf, eraOf, nodesIn}
-use Rattle.process_output.specs.Process.{ReportOf}
+use Rattle.process_output.specs.Process.{BatchCall, ReportOf}
 use Rattle.reference.specs.Reference.{PartRef, CandidateRef, RefState}
 use Rattle.reference.specs.Step.{RefReport}
 
--- a node's state without what is its own: own id and key, pending votes, store, good values, counts of messages
+-- a node's state without what is its own: own id and key, pending votes, store, good values, counts of messages; and the stamp of its last report, of which a
+-- joiner has none where its giver has one
 abbrev pub partRef : ProposalOf → PartRef
 partRef q = record { proposer = q .proposer; commit = q .commit; acks = q .acks }
 
@@ -69,10 +70,17 @@ abbrev pub sharedAnswer : Outcome ReportOf → Outcome RefReport
 sharedAnswer (done r) = done (record { batch = r .batch; faults = sharedFaults (r .faults) })
 sharedAnswer (refused n) = refused n
 
--- batch calls refused by 1 or 4 (short buffers, ill-formed verdicts) are passed over
-abbrev pub isPassed : Outcome ReportOf → Bool
-isPassed (done r) = false
-isPassed (refused n) = eqb n 1 || eqb n 4
+-- 01: batch calls refused by 1 or 4 (short buffers, ill-formed verdicts) count as not made
+abbrev pub isOwnRefusal : Outcome ReportOf → Bool
+isOwnRefusal (done r) = false
+isOwnRefusal (refused n) = eqb n 1 || eqb n 4
+
+-- 02, CR 1: and so does a batch call of another era than the engine's at that moment, whatever number it is refused by
+abbrev pub isOtherEra : StateOf → BatchCall → Bool
+isOtherEra s b = not (eqb (b .era) (eraOf s))
+
+abbrev pub isPassed : StateOf → BatchCall → Outcome ReportOf → Bool
+isPassed s b a = isOtherEra s b || isOwnRefusal a
 
 -- a joiner's reference state: era, map, parameters and candidate map of its plan, no votes, no parts
 abbrev pub planCandidate : ChangeStateOf → Found CandidateRef

@@ -23,7 +23,7 @@ use Rattle.key_gen_message.specs.KeyGenMessage.{KeyGenMessageOf, part, ack, Sig
 use Rattle.message.specs.Message.{keyGen, signedVote, contentBytes}
 use Rattle.recipe.specs.Recipe.{RecipeOf, share, missing}
 use Rattle.internal_contrib.specs.InternalContrib.{ContribOf, batchBytes}
-use Rattle.dynamic_honey_badger.specs.State.{StateOf, freshKeyGen}
+use Rattle.dynamic_honey_badger.specs.State.{StateOf, Stamp, freshKeyGen}
 use Rattle.process_output.specs.Process.{BatchCall, ReportOf}
 use Rattle.agreement.specs.Calls.{Call, batch-call, vote-call, add-call, remove-call, message-call, due-call, Start, new-start}
 
@@ -98,15 +98,15 @@ partSent = contentBytes (keyGen 9 (partWith 22) 12)
 abbrev pub voteSent : List ℕ
 voteSent = contentBytes (signedVote joinerVote)
 
--- a batch of one contribution, with its inner epoch, a node's own verdicts and lists of full length
-abbrev pub batchOf : ℕ → ContribOf → List ℕ → BatchCall
-batchOf inner c verdicts = record { inner = inner; bytes = batchBytes (c ∷ []); verdicts = verdicts; fault-places = base .faults; due-places = base .due }
+-- a batch of one contribution, with its era and inner epoch, a node's own verdicts and lists of full length
+abbrev pub batchOf : ℕ → ℕ → ContribOf → List ℕ → BatchCall
+batchOf era inner c verdicts = record { era = era; inner = inner; bytes = batchBytes (c ∷ []); verdicts = verdicts; fault-places = base .faults; due-places = base .due }
 
 abbrev pub addBatch : BatchCall
-addBatch = batchOf 3 adding []
+addBatch = batchOf 5 3 adding []
 
 abbrev pub completeBatch : BatchCall
-completeBatch = batchOf 2 completing (0 ∷ 0 ∷ 0 ∷ 0 ∷ [])
+completeBatch = batchOf 9 2 completing (0 ∷ 0 ∷ 0 ∷ 0 ∷ [])
 
 -- every kind of call: own votes for a schedule and for a node more, and the batch that the joiner's plan is of; then the own part handed back and the joiner's
 -- received, the batch with vote and key messages, an own vote for a node less, and the joiner's vote received
@@ -119,10 +119,27 @@ callsAfter = due-call partDue ∷ message-call 2 partSent ∷ batch-call complet
 abbrev pub everyCall : List Call
 everyCall = callsBefore ++ (batch-call addBatch ∷ callsAfter)
 
+-- 02, CR 1: a batch that was agreed in era 5 and comes only after the one that closed it
+abbrev pub lateBatch : BatchCall
+lateBatch = batchOf 5 4 adding []
+
+-- the last report: none; of the first batch, and of the second, each with the era that it met
+abbrev pub addStamp : Found Stamp
+addStamp = found (record { epoch = 8; era = 5 })
+
+abbrev pub completeStamp : Found Stamp
+completeStamp = found (record { epoch = 11; era = 9 })
+
 -- a node's state in this story: no committed vote is left behind a batch
-abbrev pub stateOf : Node → ℕ → List Node → List SignedVoteOf → Found KeyGenStateOf → List SignedKeyGenMsgOf → StateOf
-stateOf n era ns pending g ms =
-    record { counter = record { our-id = n .id; our-key = n .key; nodes = ns; era = era; pending = pending; committed = [] }; params = params; key-gen = g; store = ms }
+abbrev pub stateOf : Node → ℕ → List Node → List SignedVoteOf → Found KeyGenStateOf → List SignedKeyGenMsgOf → Found Stamp → StateOf
+stateOf n era ns pending g ms l =
+    record {
+      counter = record { our-id = n .id; our-key = n .key; nodes = ns; era = era; pending = pending; committed = [] };
+      params = params;
+      key-gen = g;
+      store = ms;
+      last = l;
+    }
 
 -- the giver's key generation: fresh, and with the joiner counted at its place
 abbrev pub fresh : KeyGenStateOf
@@ -133,31 +150,31 @@ counted = record { key-gen = fresh .key-gen; counts = 0 ∷ 1 ∷ replicate (bas
 
 -- the giver's state: opened; after each own vote; after the first batch; after each part; after the second batch; after each vote
 abbrev pub opened : StateOf
-opened = stateOf giver 5 alone [] nothing []
+opened = stateOf giver 5 alone [] nothing [] nothing
 
 abbrev pub asked : StateOf
-asked = stateOf giver 5 alone (scheduleVote ∷ []) nothing []
+asked = stateOf giver 5 alone (scheduleVote ∷ []) nothing [] nothing
 
 abbrev pub voted : StateOf
-voted = stateOf giver 5 alone (addVote ∷ []) nothing []
+voted = stateOf giver 5 alone (addVote ∷ []) nothing [] nothing
 
 abbrev pub added : StateOf
-added = stateOf giver 9 alone [] (found fresh) []
+added = stateOf giver 9 alone [] (found fresh) [] addStamp
 
 abbrev pub returnedOne : StateOf
-returnedOne = stateOf giver 9 alone [] (found fresh) (signed giver (partWith 21) ∷ [])
+returnedOne = stateOf giver 9 alone [] (found fresh) (signed giver (partWith 21) ∷ []) addStamp
 
 abbrev pub storedBoth : StateOf
-storedBoth = stateOf giver 9 alone [] (found counted) (signed giver (partWith 21) ∷ signed joiner (partWith 22) ∷ [])
+storedBoth = stateOf giver 9 alone [] (found counted) (signed giver (partWith 21) ∷ signed joiner (partWith 22) ∷ []) addStamp
 
 abbrev pub completed : StateOf
-completed = stateOf giver 12 both [] nothing []
+completed = stateOf giver 12 both [] nothing [] completeStamp
 
 abbrev pub removing : StateOf
-removing = stateOf giver 12 both (removeVote ∷ []) nothing []
+removing = stateOf giver 12 both (removeVote ∷ []) nothing [] completeStamp
 
 abbrev pub ended : StateOf
-ended = stateOf giver 12 both (removeVote ∷ joinerVote ∷ []) nothing []
+ended = stateOf giver 12 both (removeVote ∷ joinerVote ∷ []) nothing [] completeStamp
 
 -- what the batches report, to the giver and to the joiner: a map in progress; the map complete. The joiner's own verdict says that a value of the giver does not
 -- fit its commitment.
@@ -196,17 +213,21 @@ abbrev pub planLength : ℕ
 planLength = 92
 
 abbrev pub joinerBatch : BatchCall
-joinerBatch = batchOf 2 completing (0 ∷ 0 ∷ 3 ∷ 0 ∷ [])
+joinerBatch = batchOf 9 2 completing (0 ∷ 0 ∷ 3 ∷ 0 ∷ [])
 
 abbrev pub joinerOpened : StateOf
-joinerOpened = stateOf joiner 9 alone [] (found (freshKeyGen base 2 both)) []
+joinerOpened = stateOf joiner 9 alone [] (found (freshKeyGen base 2 both)) [] nothing
 
 abbrev pub joinerCompleted : StateOf
-joinerCompleted = stateOf joiner 12 both [] nothing []
+joinerCompleted = stateOf joiner 12 both [] nothing [] completeStamp
 
 -- an observer: it starts with the giver's map, is not in it, and is given both batches
 abbrev pub observerOpened : StateOf
-observerOpened = stateOf (record { id = 3; key = 13 }) 5 alone [] nothing []
+observerOpened = stateOf (record { id = 3; key = 13 }) 5 alone [] nothing [] nothing
 
 abbrev pub observerCalls : List Call
 observerCalls = batch-call addBatch ∷ batch-call joinerBatch ∷ []
+
+-- one that is slow: between the two it is handed a batch of the era that the first one closed
+abbrev pub slowCalls : List Call
+slowCalls = batch-call addBatch ∷ batch-call lateBatch ∷ batch-call joinerBatch ∷ []

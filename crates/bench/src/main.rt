@@ -1,5 +1,6 @@
-// The batch call alone, for its time without a log's text: a node starts, takes an opening batch, and then one batch again and again. The input is six numbers of eight
-// bytes (how many batches in all, and the lengths of map, params, opening batch, batch, and verdicts, which are all 0), then these parts one behind the other.
+// The batch call alone, for its time without a log's text: a node starts in era 0, takes an opening batch of that era, and then one batch again and again. The input is
+// seven numbers of eight bytes (how many batches in all; the lengths of map, params, opening batch, batch, and verdicts, which are all 0; the batch's era), then these
+// parts one behind the other.
 ghost use Prim.Native.Nat.{_≤_};
 use bincode::ReadU64;
 use due::DueList;
@@ -72,16 +73,17 @@ fn is_accepted(outcome: StartOutcome) -> bool {
     }
 }
 
-// Where the parts end, one behind the other.
+// Where the parts end, one behind the other, and the batch's era.
 pub struct Ends {
     pub map: usize,
     pub params: usize,
     pub opening: usize,
     pub batch: usize,
+    pub era: usize,
 }
 
 fn ends_of(s: &[u8]) -> Ends {
-    let map = 48 + number(s, 8);
+    let map = 56 + number(s, 8);
     let params = map + number(s, 16);
     let opening = params + number(s, 24);
     Ends {
@@ -89,6 +91,7 @@ fn ends_of(s: &[u8]) -> Ends {
         params,
         opening,
         batch: opening + number(s, 32),
+        era: number(s, 48),
     }
 }
 
@@ -115,6 +118,7 @@ fn take_batches(
         let k = at_turn(i, 0, verdicts);
         let r = process_batch::process_batch(
             state,
+            at_turn(i, 0, e.era) as u64,
             0,
             part(s, from, to),
             part(&zeros, 0, k),
@@ -154,7 +158,7 @@ fn run(node: DynamicHoneyBadger, s: &[u8], e: Ends) -> bool {
 // Whether the node starts and every batch is reported.
 fn bench(s: &[u8]) -> bool {
     let e = ends_of(s);
-    let map = part(s, 48, e.map);
+    let map = part(s, 56, e.map);
     let r = DynamicHoneyBadger::new(1, 1001, 0, map, part(s, e.map, e.params));
     let outcome = r.outcome;
     let node = r.state;

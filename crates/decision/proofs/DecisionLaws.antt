@@ -28,7 +28,7 @@ use Rattle.message_store.specs.MessageStore.{fromEra}
 use Rattle.key_gen_state.specs.declared.KeyGenState.{KeyGenState}
 use Rattle.key_gen_state.specs.KeyGenState as running
 use Rattle.recipe.specs.Recipe.{RecipeOf}
-use Rattle.dynamic_honey_badger.specs.State.{StateOf, nodesIn, withParams, newEra, freshKeyGen, keyGenFor, partDue, candidateNodes}
+use Rattle.dynamic_honey_badger.specs.State.{StateOf, Stamp, nodesIn, withParams, newEra, freshKeyGen, keyGenFor, partDue, candidateNodes}
 use Rattle.decision.specs.declared.Elected.{Elected}
 use Rattle.decision.specs.Decision.{Decided, decidedAs, completedBy, isCandidate, mapWins, withSchedule, scheduleWins, electedBy, decide, decideBy, partsOf, saidChange, electedOf, isEmptyMap, emptyWins}
 
@@ -62,20 +62,21 @@ ready-runs k = go (k .running) (running.runningOf k)
     go false g e = absurd (let z : _≡_ {A = ℕ} 0 1 = cc in let y : ⊥ = omega arith in y)
 
 -- a new era as code begins it: no votes, and a store without lower eras
-pub era-begun : (era : ℕ) (c v : VoteCounter) (m : PubKeyMap) (p : Params) (g : Found running.KeyGenStateOf) (st : List SignedKeyGenMsgOf)
+pub era-begun : (era : ℕ) (c v : VoteCounter) (m : PubKeyMap) (p : Params) (g : Found running.KeyGenStateOf) (st : List SignedKeyGenMsgOf) (l : Found Stamp)
     → v ≡ newHeld (c .«our_id») (c .«secret_key») m era
-    → _≡_ {A = StateOf} (record { counter = counterOf v; params = p; key-gen = g; store = fromEra era st }) (newEra era (nodesOf m) (record { counter = counterOf c; params = p; key-gen = g; store = st }))
+    → _≡_ {A = StateOf} (record { counter = counterOf v; params = p; key-gen = g; store = fromEra era st; last = l })
+    (newEra era (nodesOf m) (record { counter = counterOf c; params = p; key-gen = g; store = st; last = l }))
 unfolding newEra
-era-begun era c v m p g st e = ap {B = StateOf} (λ (x : VoteCounter). record { counter = counterOf x; params = p; key-gen = g; store = fromEra era st }) e
+era-begun era c v m p g st l e = ap {B = StateOf} (λ (x : VoteCounter). record { counter = counterOf x; params = p; key-gen = g; store = fromEra era st; last = l }) e
 
 -- the same with a fresh key generation
-pub map-begun : (era : ℕ) (c v : VoteCounter) (m : PubKeyMap) (p : Params) (k h : KeyGenState) (x : KeyGen) (st : List SignedKeyGenMsgOf)
+pub map-begun : (era : ℕ) (c v : VoteCounter) (m : PubKeyMap) (p : Params) (k h : KeyGenState) (x : KeyGen) (st : List SignedKeyGenMsgOf) (l : Found Stamp)
     → v ≡ newHeld (c .«our_id») (c .«secret_key») (c .«pub_keys») era → x ≡ freshHeld (c .«our_id») m → running.stateOf h ≡ found (running.freshState base (keyGenOf x))
-    → partsOf p v h (fromEra era st) ≡ keyGenFor base (nodesOf m) (newEra era (nodesOf (c .«pub_keys»)) (partsOf p c k st))
+    → partsOf p v h (fromEra era st) l ≡ keyGenFor base (nodesOf m) (newEra era (nodesOf (c .«pub_keys»)) (partsOf p c k st l))
 unfolding keyGenFor newEra
-map-begun era c v m p k h x st e f g =
+map-begun era c v m p k h x st l e f g =
     let begun : running.stateOf h ≡ found (freshKeyGen base (c .«our_id») (nodesOf m)) = g ∙ ap {B = Found running.KeyGenStateOf} (λ (y : KeyGenOf). found (running.freshState base y)) (ap keyGenOf f ∙ fresh (c .«our_id») m) in
-    λ i. record { counter = counterOf (e i); params = p; key-gen = begun i; store = fromEra era st }
+    λ i. record { counter = counterOf (e i); params = p; key-gen = begun i; store = fromEra era st; last = l }
 
 module _ (z : Sizes) (era : ℕ) (s : StateOf) where
   -- a map wins

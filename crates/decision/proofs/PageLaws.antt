@@ -32,7 +32,7 @@ module _ (z : Sizes) (era : ℕ) (s : StateOf) where
   pub ready-completes : (g : KeyGenStateOf) → s .key-gen ≡ found g → ready (g .key-gen) ≡ true
       → decide z era s
       ≡ record {
-        state = record { counter = emptied era (g .key-gen .nodes) s; params = s .params; key-gen = nothing; store = fromEra era (s .store) };
+        state = record { counter = emptied era (g .key-gen .nodes) s; params = s .params; key-gen = nothing; store = fromEra era (s .store); last = s .last };
         change = complete (nodeChange (g .key-gen .nodes));
         due = [];
         recipe = found (recipe (g .key-gen));
@@ -71,7 +71,7 @@ module _ (z : Sizes) (era : ℕ) (s : StateOf) where
             go nothing h = refl
 
         abbrev begun : StateOf
-        begun = record { counter = emptied era (s .counter .nodes) s; params = s .params; key-gen = found (fresh z (s .counter .our-id) ns); store = fromEra era (s .store) }
+        begun = record { counter = emptied era (s .counter .nodes) s; params = s .params; key-gen = found (fresh z (s .counter .our-id) ns); store = fromEra era (s .store); last = s .last }
 
         -- "a part for each fresh key generation, where the candidate map holds this station", with the new era
         pub map-wins-inside : isMember ns (s .counter .our-id) ≡ true
@@ -96,6 +96,7 @@ module _ (z : Sizes) (era : ℕ) (s : StateOf) where
             };
             key-gen = s .key-gen;
             store = fromEra era (s .store);
+            last = s .last;
           };
           change = complete (encryptionSchedule x);
           due = [];

@@ -26,7 +26,7 @@ use Rattle.message_store.specs.MessageStore.{fromEra}
 use Rattle.recipe.specs.declared.Recipe.{Recipe}
 use Rattle.recipe.specs.Recipe.{RecipeOf, recipe, recipeOf, emptyRecipe}
 use Rattle.joining.specs.Starting.{isEmpty}
-use Rattle.dynamic_honey_badger.specs.State.{StateOf, nodesIn, withKeyGen, withParams, newEra, keyGenFor, partDue, candidateNodes}
+use Rattle.dynamic_honey_badger.specs.State.{StateOf, Stamp, nodesIn, withKeyGen, withParams, newEra, keyGenFor, partDue, candidateNodes}
 use Rattle.decision.specs.declared.Decision.{Decision}
 use Rattle.decision.specs.declared.Elected.{Elected}
 
@@ -100,15 +100,15 @@ abbrev pub saidRecipe : Bool → Recipe → Found RecipeOf
 saidRecipe true r = found (recipeOf r)
 saidRecipe false r = nothing
 
--- the state that parts make, whatever the store holds
-abbrev pub partsOf : Params → VoteCounter → KeyGenState → List SignedKeyGenMsgOf → StateOf
-partsOf p c k st = record { counter = counterOf c; params = p; key-gen = stateOf k; store = st }
+-- the state that parts make, whatever the store holds and was reported last
+abbrev pub partsOf : Params → VoteCounter → KeyGenState → List SignedKeyGenMsgOf → Found Stamp → StateOf
+partsOf p c k st l = record { counter = counterOf c; params = p; key-gen = stateOf k; store = st; last = l }
 
 -- where an era begins, the store loses what is of lower ones
-abbrev pub decidedOf : ℕ → List SignedKeyGenMsgOf → Decision → Decided
-decidedOf era st d =
+abbrev pub decidedOf : ℕ → List SignedKeyGenMsgOf → Found Stamp → Decision → Decided
+decidedOf era st l d =
     record {
-      state = partsOf (d .params) (d .«vote_counter») (d .«key_gen_state») (cond (d .restarted) (fromEra era st) st);
+      state = partsOf (d .params) (d .«vote_counter») (d .«key_gen_state») (cond (d .restarted) (fromEra era st) st) l;
       change = progressOf (d .change);
       due = cond (d .«part_due») (record { kind = Part; era = era } ∷ []) [];
       recipe = saidRecipe (d .«has_recipe») (d .recipe);

@@ -2,7 +2,7 @@
 // All but the message store is handed over and back; the store is filtered by the caller where an era begins.
 ghost use mathlib.Core.Path.{_≡_};
 ghost use mathlib.Core.List.{List};
-ghost use Rattle.lists.specs.Lists.{found, nothing};
+ghost use Rattle.lists.specs.Lists.{Found, found, nothing};
 ghost use Prim.Native.Nat.{_≤_};
 ghost use Rattle.bincode.specs.Sizes.{base};
 ghost use Rattle.pub_key_map.specs.PubKeyMap.{nodesOf};
@@ -12,7 +12,7 @@ ghost use Rattle.vote_counter.specs.VoteCounter.{counterOf, computeWinner};
 ghost use Rattle.key_gen.specs.KeyGen.{freshHeld};
 ghost use Rattle.key_gen_message.specs.KeyGenMessage.{SignedKeyGenMsgOf};
 ghost use Rattle.key_gen_state.specs.KeyGenState as running;
-ghost use Rattle.dynamic_honey_badger.specs.State.{candidateNodes};
+ghost use Rattle.dynamic_honey_badger.specs.State.{Stamp, candidateNodes};
 ghost use Rattle.decision.specs.Decision.{partsOf, withoutRecipe, decidedOf, electedOf, completedBy, isCandidate};
 ghost use Rattle.decision.specs.Decision.{mapWins, withSchedule, scheduleWins, electedBy, decideBy, isEmptyMap, clearedHeld};
 use change::Change;
@@ -119,7 +119,7 @@ fn decided(
 
 // Step 6: the candidate map takes effect, key generation ends, a new era begins.
 fn complete(params: Params, counter: VoteCounter, state: KeyGenState, era: u64) -> Decision
-    ensures { λ r. ⌜ ((st : List SignedKeyGenMsgOf) → decidedOf era st r ≡ completedBy era (partsOf params counter state st) (found (running.runningOf state)))
+    ensures { λ r. ⌜ ((st : List SignedKeyGenMsgOf) (l : Found Stamp) → decidedOf era st l r ≡ completedBy era (partsOf params counter state st l) (found (running.runningOf state)))
         × NoRecipeEmpty (r .«has_recipe») (r .recipe) ⌝ }
 {
     let key_gen = state.key_gen;
@@ -184,7 +184,7 @@ fn map_wins(
     era: u64,
     map: PubKeyMap,
 ) -> Decision
-    ensures { λ r. ⌜ ((st : List SignedKeyGenMsgOf) → decidedOf era st r ≡ mapWins base era (partsOf params counter state st) (nodesOf map))
+    ensures { λ r. ⌜ ((st : List SignedKeyGenMsgOf) (l : Found Stamp) → decidedOf era st l r ≡ mapWins base era (partsOf params counter state st l) (nodesOf map))
         × NoRecipeEmpty (r .«has_recipe») (r .recipe) ⌝ }
 {
     let change = ChangeState::in_progress(Change::node_change(map));
@@ -219,7 +219,7 @@ fn schedule_wins(
     era: u64,
     schedule: EncryptionSchedule,
 ) -> Decision
-    ensures { λ r. ⌜ ((st : List SignedKeyGenMsgOf) → decidedOf era st r ≡ scheduleWins era (partsOf params counter state st) schedule)
+    ensures { λ r. ⌜ ((st : List SignedKeyGenMsgOf) (l : Found Stamp) → decidedOf era st l r ≡ scheduleWins era (partsOf params counter state st l) schedule)
         × NoRecipeEmpty (r .«has_recipe») (r .recipe) ⌝ }
 {
     let map = counter.pub_keys;
@@ -237,7 +237,7 @@ fn change_wins(
     era: u64,
     change: Change,
 ) -> Decision
-    ensures { λ r. ⌜ ((st : List SignedKeyGenMsgOf) → decidedOf era st r ≡ electedBy base era (partsOf params counter state st) (found (changeOf change)))
+    ensures { λ r. ⌜ ((st : List SignedKeyGenMsgOf) (l : Found Stamp) → decidedOf era st l r ≡ electedBy base era (partsOf params counter state st l) (found (changeOf change)))
         × NoRecipeEmpty (r .«has_recipe») (r .recipe) ⌝ }
 {
     let kind = change.kind;
@@ -262,7 +262,7 @@ pub fn decide(
     era: u64,
     e: Elected,
 ) -> Decision
-    ensures { λ r. ⌜ ((st : List SignedKeyGenMsgOf) → decidedOf era st r ≡ decideBy base era (partsOf params counter state st) (electedOf e))
+    ensures { λ r. ⌜ ((st : List SignedKeyGenMsgOf) (l : Found Stamp) → decidedOf era st l r ≡ decideBy base era (partsOf params counter state st l) (electedOf e))
         × NoRecipeEmpty (r .«has_recipe») (r .recipe) ⌝ }
 {
     if state.is_ready() {

@@ -49,6 +49,7 @@ module _ (z : Sizes) (s : StateOf) (bytes : List ℕ) (era : ℕ) (m : KeyGenMes
               params = s .params;
               key-gen = s .key-gen;
               store = s .store ++ (record { era = era; id = s .counter .our-id; message = m; sig = sig } ∷ []);
+              last = s .last;
             };
             effect = quiet;
           }

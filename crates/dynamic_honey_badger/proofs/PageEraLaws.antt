@@ -28,7 +28,8 @@ use Rattle.joining.specs.Starting.{StartOf, startChecked, joinChecked}
 use Rattle.dynamic_honey_badger.specs.State.{StateOf, newEra, keyGenFor, partDue, started, joinedWith, joined}
 use Rattle.dynamic_honey_badger.specs.Asked.{row5, nextEpoch, someBy, shouldPropose}
 
--- 01: "A new era empties pending and committed votes and drops stored messages of lower eras": own id and key, parameters and key generation stay
+-- 01: "A new era empties pending and committed votes and drops stored messages of lower eras": own id and key, parameters and key generation stay, and so does
+-- the stamp of the last report
 pub era-begins : (era : ℕ) (ns : List Node) (s : StateOf)
     → newEra era ns s
     ≡ record {
@@ -36,6 +37,7 @@ pub era-begins : (era : ℕ) (ns : List Node) (s : StateOf)
       params = s .params;
       key-gen = s .key-gen;
       store = fromEra era (s .store);
+      last = s .last;
     }
 unfolding newEra
 era-begins era ns s = refl
@@ -45,7 +47,7 @@ abbrev pub fresh : Sizes → ℕ → List Node → KeyGenStateOf
 fresh z id ns = record { key-gen = record { our-id = id; nodes = ns; parts = [] }; counts = replicate (z .nodes + z .nodes) 0 }
 
 pub key-gen-begins : (z : Sizes) (ns : List Node) (s : StateOf)
-    → keyGenFor z ns s ≡ record { counter = s .counter; params = s .params; key-gen = found (fresh z (s .counter .our-id) ns); store = s .store }
+    → keyGenFor z ns s ≡ record { counter = s .counter; params = s .params; key-gen = found (fresh z (s .counter .our-id) ns); store = s .store; last = s .last }
 unfolding keyGenFor
 key-gen-begins z ns s = refl
 
@@ -57,9 +59,9 @@ module _ (ns : List Node) (id era : ℕ) where
   pub no-part-due : isMember ns id ≡ false → partDue ns id era ≡ []
   no-part-due e = rw e
 
--- a state with no votes, nothing stored, and this key generation or none
+-- a state with no votes, nothing stored, nothing reported (02, CR 1: "none at the start and after joining"), and this key generation or none
 abbrev pub opening : ℕ → ℕ → ℕ → List Node → Params → Found KeyGenStateOf → StateOf
-opening id key era ns p g = record { counter = record { our-id = id; our-key = key; nodes = ns; era = era; pending = []; committed = [] }; params = p; key-gen = g; store = [] }
+opening id key era ns p g = record { counter = record { our-id = id; our-key = key; nodes = ns; era = era; pending = []; committed = [] }; params = p; key-gen = g; store = []; last = nothing }
 
 -- an accepted `new`: era, map and parameters given, no key generation
 pub new-opens : (z : Sizes) (id key era : ℕ) (map params : List ℕ) (x : StartOf) → startChecked z key map params ≡ done x

@@ -83,7 +83,7 @@ module _ (z : Sizes) (s : StateOf) (sender era : ℕ) (m : KeyGenMessageOf) (sig
       module _ (g : KeyGenStateOf) (runs : s .key-gen ≡ found g) (i : ℕ) (place : senderPlace z (s .counter .nodes) (g .key-gen .nodes) sender ≡ found i) where
         -- the state with the sender's count raised by one, and this store
         abbrev counted : StateOf
-        counted = record { counter = s .counter; params = s .params; key-gen = found (record { key-gen = g .key-gen; counts = set (g .counts) i (getD (g .counts) i 0 + 1) }); store = s .store }
+        counted = record { counter = s .counter; params = s .params; key-gen = found (record { key-gen = g .key-gen; counts = set (g .counts) i (getD (g .counts) i 0 + 1) }); store = s .store; last = s .last }
 
         abbrev stored : StateOf
         stored =
@@ -92,6 +92,7 @@ module _ (z : Sizes) (s : StateOf) (sender era : ℕ) (m : KeyGenMessageOf) (sig
               params = s .params;
               key-gen = found (record { key-gen = g .key-gen; counts = set (g .counts) i (getD (g .counts) i 0 + 1) });
               store = s .store ++ (record { era = era; id = sender; message = m; sig = sig } ∷ []);
+              last = s .last;
             }
 
         -- "count > n+1 of the new map", also where the store is full: this one would be the message n+2; nothing is stored
@@ -104,7 +105,7 @@ module _ (z : Sizes) (s : StateOf) (sender era : ℕ) (m : KeyGenMessageOf) (sig
         -- once the count has stopped rising nothing changes
         pub key-still-many : length (g .key-gen .nodes) + 2 ≤ getD (g .counts) i 0
             → receivedContent z s sender (keyGen era m sig)
-            ≡ record { state = record { counter = s .counter; params = s .params; key-gen = found g; store = s .store }; effect = fault TooManyKeyGenMessages }
+            ≡ record { state = record { counter = s .counter; params = s .params; key-gen = found g; store = s .store; last = s .last }; effect = fault TooManyKeyGenMessages }
         unfolding receivedContent receivedKeyGen countMessages
         key-still-many h =
             rw
@@ -162,6 +163,7 @@ module _ (z : Sizes) (s : StateOf) (sender : ℕ) (v : SignedVoteOf) where
               params = s .params;
               key-gen = s .key-gen;
               store = s .store;
+              last = s .last;
             };
             effect = quiet;
           }

@@ -61,6 +61,7 @@ module _ (z : Sizes) (s : StateOf) where
               params = s .params;
               key-gen = s .key-gen;
               store = s .store;
+              last = s .last;
             };
             answer = done (found (own num));
           }

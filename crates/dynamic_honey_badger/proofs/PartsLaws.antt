@@ -31,7 +31,7 @@ use Rattle.dynamic_honey_badger.proofs.OwnVotesLaws.{vote-signed}
 
 -- a state with another counter
 abbrev heldCounter : DynamicHoneyBadger → VoteCounter → DynamicHoneyBadger
-heldCounter d c = record { params = d .params; «vote_counter» = c; «key_gen_state» = d .«key_gen_state»; store = d .store }
+heldCounter d c = record { params = d .params; «vote_counter» = c; «key_gen_state» = d .«key_gen_state»; store = d .store; last = d .last }
 
 -- whether a state's own id is in its map, by its parts
 pub validator : (s : StateOf) (ns : List Node) (id : ℕ) (b : Bool) → nodesIn s ≡ ns → s .counter .our-id ≡ id → isMember ns id ≡ b → isValidator s ≡ b

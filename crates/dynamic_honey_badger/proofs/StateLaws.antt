@@ -1,13 +1,12 @@
 -- Laws of a node's state: how it starts, and what an era empties.
 -- Assumes nothing.
 use mathlib.Core.Bool.{Bool, true, false, cond}
-use mathlib.Core.List.{List, []}
+use mathlib.Core.List.{[]}
 use mathlib.Core.Path.{_≡_, refl, sym, ap, _∙_}
 use Prim.Native.Nat.{ℕ}
 use Rattle.lists.specs.Lists.{Found, found, nothing}
 use Rattle.lists.proofs.ListLaws.{false-true}
 use Rattle.bincode.specs.Sizes.{Sizes, base}
-use Rattle.pub_key_map.specs.declared.Node.{Node}
 use Rattle.pub_key_map.specs.declared.PubKeyMap.{PubKeyMap}
 use Rattle.pub_key_map.specs.PubKeyMap.{nodesOf}
 use Rattle.change.specs.declared.ChangeKind.{ChangeKind}

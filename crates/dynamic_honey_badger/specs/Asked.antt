@@ -1,15 +1,18 @@
--- What a host asks a node between batches: `should_propose`, `next_epoch`.
+-- What a host asks a node between batches: `should_propose`, `next_epoch`, `last_report`.
 use Prim.Native.Nat.{ℕ, _+_}
 use mathlib.Core.List.{List, [], _∷_}
 use mathlib.Core.Bool.{Bool, true, false, cond}
 use lib.ListN.{length}
 use lib.Dec.{ltb, eqb}
+use Rattle.lists.specs.Lists.{Found, found, nothing}
 use Rattle.bincode.specs.Outcome.{Outcome, done, refused}
 use Rattle.util.specs.MaxFaulty.{maxFaulty}
 use Rattle.key_gen_message.specs.KeyGenMessage.{SignedKeyGenMsgOf}
 use Rattle.votes.specs.Votes.{SignedVoteOf}
 use Rattle.vote_counter.specs.VoteCounter.{pendingVotes}
-use Rattle.dynamic_honey_badger.specs.State.{StateOf, eraOf, nodesIn}
+use Rattle.dynamic_honey_badger.specs.State.{StateOf, Stamp, eraOf, nodesIn}
+use Rattle.dynamic_honey_badger.specs.declared.LastReport.{LastReport}
+use Rattle.dynamic_honey_badger.specs.declared.LastReport.the-variants as last
 use Rattle.dynamic_honey_badger.specs.declared.NextEpoch.{NextEpoch}
 use Rattle.dynamic_honey_badger.specs.declared.NextEpoch.the-variants as next
 
@@ -43,3 +46,11 @@ shouldPropose s has-input proposals =
 abbrev pub saidNext : NextEpoch → Outcome ℕ
 saidNext (next.Epoch n) = done n
 saidNext (next.Refused n) = refused n
+
+-- 02, CR 1: era and epoch of the last report, kept with the state, or none
+abbrev pub lastReport : StateOf → Found Stamp
+lastReport s = s .last
+
+abbrev pub saidLast : LastReport → Found Stamp
+saidLast (last.Report epoch era) = found (record { epoch = epoch; era = era })
+saidLast last.None = nothing

@@ -25,15 +25,23 @@ use Rattle.join_plan.specs.JoinPlan.{PlanOf}
 use Rattle.joining.specs.declared.StartOutcome.the-variants as start
 use Rattle.joining.specs.Starting.{StartOf, startChecked, joinChecked, saidStart}
 use Rattle.dynamic_honey_badger.specs.declared.DynamicHoneyBadger.{DynamicHoneyBadger}
+use Rattle.dynamic_honey_badger.specs.declared.ReportStamp.{ReportStamp}
 use Rattle.dynamic_honey_badger.specs.declared.Started.{Started}
 use Rattle.dynamic_honey_badger.specs.declared.JoinStarted.{JoinStarted}
 
--- own id and key, map, era, pending and committed votes are the counter's; then parameters, key generation or none, and the message store
+-- 02, CR 1: epoch and era of a report, as the report has them
+pub record Stamp : Type 0 where
+  pub epoch : ℕ
+  pub era : ℕ
+
+-- own id and key, map, era, pending and committed votes are the counter's; then parameters, key generation or none, the message store, and the stamp of the last
+-- report or none
 pub record StateOf : Type 0 where
   pub counter : CounterOf
   pub params : Params
   pub key-gen : Found running.KeyGenStateOf
   pub store : List SignedKeyGenMsgOf
+  pub last : Found Stamp
 
 abbrev pub eraOf : StateOf → ℕ
 eraOf s = s .counter .era
@@ -42,16 +50,19 @@ abbrev pub nodesIn : StateOf → List Node
 nodesIn s = s .counter .nodes
 
 abbrev pub withCounter : StateOf → CounterOf → StateOf
-withCounter s c = record { counter = c; params = s .params; key-gen = s .key-gen; store = s .store }
+withCounter s c = record { counter = c; params = s .params; key-gen = s .key-gen; store = s .store; last = s .last }
 
 abbrev pub withKeyGen : StateOf → Found running.KeyGenStateOf → StateOf
-withKeyGen s g = record { counter = s .counter; params = s .params; key-gen = g; store = s .store }
+withKeyGen s g = record { counter = s .counter; params = s .params; key-gen = g; store = s .store; last = s .last }
 
 abbrev pub withStore : StateOf → List SignedKeyGenMsgOf → StateOf
-withStore s ms = record { counter = s .counter; params = s .params; key-gen = s .key-gen; store = ms }
+withStore s ms = record { counter = s .counter; params = s .params; key-gen = s .key-gen; store = ms; last = s .last }
 
 abbrev pub withParams : StateOf → Params → StateOf
-withParams s p = record { counter = s .counter; params = p; key-gen = s .key-gen; store = s .store }
+withParams s p = record { counter = s .counter; params = p; key-gen = s .key-gen; store = s .store; last = s .last }
+
+abbrev pub withLast : StateOf → Found Stamp → StateOf
+withLast s l = record { counter = s .counter; params = s .params; key-gen = s .key-gen; store = s .store; last = l }
 
 -- a validator: own id in the current map
 abbrev pub isValidator : StateOf → Bool
@@ -81,6 +92,7 @@ newEra era ns s =
       params = s .params;
       key-gen = s .key-gen;
       store = fromEra era (s .store);
+      last = s .last;
     }
 
 -- a fresh key generation for a map: no parts, nobody counted
@@ -94,9 +106,9 @@ keyGenFor z ns s = withKeyGen s (found (freshKeyGen z (s .counter .our-id) ns))
 abbrev pub partDue : List Node → ℕ → ℕ → List DueItem
 partDue ns id era = cond (isMember ns id) (record { kind = Part; era = era } ∷ []) []
 
--- `new`: no votes, no key generation, nothing stored
+-- `new`: no votes, no key generation, nothing stored, nothing reported
 abbrev pub opened : ℕ → ℕ → ℕ → List Node → Params → StateOf
-opened id key era ns p = record { counter = newCounter id key ns era; params = p; key-gen = nothing; store = [] }
+opened id key era ns p = record { counter = newCounter id key ns era; params = p; key-gen = nothing; store = []; last = nothing }
 
 abbrev pub startedFrom : ℕ → ℕ → ℕ → Outcome StartOf → Outcome StateOf
 startedFrom id key era (done x) = done (opened id key era (x .keys) (x .params))
@@ -150,6 +162,9 @@ joinDue (done j) = j .due
 joinDue (refused n) = []
 
 -- as code holds it
+abbrev pub stampHeld : ReportStamp → Found Stamp
+stampHeld r = cond (r .given) (found (record { epoch = r .epoch; era = r .era })) nothing
+
 abbrev pub stateOf : DynamicHoneyBadger → StateOf
 stateOf d =
     record {
@@ -157,6 +172,7 @@ stateOf d =
       params = d .params;
       key-gen = running.stateOf (d .«key_gen_state»);
       store = storeOf (d .store);
+      last = stampHeld (d .last);
     }
 
 abbrev pub startedOf : Started → Outcome StateOf
@@ -165,12 +181,15 @@ startedOf r = saidStart (r .outcome) (stateOf (r .state))
 abbrev pub joinedOf : JoinStarted → Outcome JoinAnswer
 joinedOf r = saidStart (r .outcome) (record { state = stateOf (r .state); due = r .due })
 
--- the struct of a state that is opened
-abbrev pub openedHeld : ℕ → ℕ → ℕ → PubKeyMap → Params → DynamicHoneyBadger
-openedHeld id key era m p = record { params = p; «vote_counter» = newHeld id key m era; «key_gen_state» = running.noKeyGen; store = noStore }
+-- the struct of a state that is opened: nothing was reported
+abbrev pub noStamp : ReportStamp
+noStamp = record { given = false; epoch = 0; era = 0 }
 
--- what stands beside a refused start: own id and key as lent, era 0, the empty map, the empty parameters, no votes, no key generation, nothing stored; and no
--- due item
+abbrev pub openedHeld : ℕ → ℕ → ℕ → PubKeyMap → Params → DynamicHoneyBadger
+openedHeld id key era m p = record { params = p; «vote_counter» = newHeld id key m era; «key_gen_state» = running.noKeyGen; store = noStore; last = noStamp }
+
+-- what stands beside a refused start: own id and key as lent, era 0, the empty map, the empty parameters, no votes, no key generation, nothing stored, nothing
+-- reported; and no due item
 abbrev pub notOpened : ℕ → ℕ → DynamicHoneyBadger
 notOpened id key = openedHeld id key 0 (mapHeld []) noParams
 

@@ -20,7 +20,7 @@ ghost use Rattle.dynamic_honey_badger.specs.State.{notOpened, started, s
 ghost use Rattle.dynamic_honey_badger.specs.OwnVotes.{votedOf, wasCast, NotCastKeeps, voteForBytes, voteToAdd, voteToRemove};
 ghost use Rattle.dynamic_honey_badger.specs.Received.{handledOf, MessageRefusedKeeps, received, messageEra};
 ghost use Rattle.dynamic_honey_badger.specs.Parts.{WantedFor, signedAs, CastFor, UncastKeeps, addedAs, keyMessage, JudgedKey, JudgedRead};
-ghost use Rattle.dynamic_honey_badger.specs.Asked.{nextEpoch, epochIn, saidNext, someBy, shouldPropose};
+ghost use Rattle.dynamic_honey_badger.specs.Asked.{nextEpoch, epochIn, saidNext, someBy, shouldPropose, lastReport, saidLast};
 use bincode::Step;
 use change::Change;
 use change::ChangeKind;
@@ -48,12 +48,20 @@ use vote_counter::VoteCounter;
 use vote_counter::VoteOutcome;
 use votes::SignedVote;
 
+// Whether there was a report, and the epoch and era that the last one has; without one both are 0.
+pub struct ReportStamp {
+    pub given: bool,
+    pub epoch: u64,
+    pub era: u64,
+}
+
 // Own id and key, map, era and votes are the counter's.
 pub struct DynamicHoneyBadger {
     pub params: Params,
     pub vote_counter: VoteCounter,
     pub key_gen_state: KeyGenState,
     pub store: MessageStore,
+    pub last: ReportStamp,
 }
 
 // A node that starts, or a refusal; the state beside it is then the empty one.
@@ -126,6 +134,12 @@ struct Judged {
 pub enum NextEpoch {
     Epoch(u64),
     Refused(u8),
+}
+
+// Epoch and era of the last report, or none: none was made since the start or the joining.
+pub enum LastReport {
+    Report(u64, u64),
+    None,
 }
 
 // Whether a signature is under the id's current or candidate key.
@@ -429,6 +443,11 @@ impl DynamicHoneyBadger {
             vote_counter: VoteCounter::new(our_id, secret_key, pub_keys, era),
             key_gen_state: KeyGenState::empty(),
             store: MessageStore::empty(),
+            last: ReportStamp {
+                given: false,
+                epoch: 0,
+                era: 0,
+            },
         }
     }
 
@@ -700,6 +719,17 @@ impl DynamicHoneyBadger {
     {
         let counter = self.vote_counter;
         epoch_in(counter.era, inner)
+    }
+
+    // Epoch and era of the last report.
+    pub fn last_report(self) -> LastReport
+        ensures { λ r. ⌜ saidLast r ≡ lastReport (stateOf self) ⌝ }
+    {
+        let last = self.last;
+        if last.given {
+            return LastReport::Report(last.epoch, last.era);
+        }
+        LastReport::None
     }
 }
 

@@ -69,9 +69,9 @@ held-faults r s keeps = go (r .outcome) refl
 faults-counted : (r : Processed) (s : DynamicHoneyBadger) (x : ProcessedOf) → ProcessedAs r x → BatchRefusedKeeps r s → r .faults ≡ length (faultsIn (x .answer))
 faults-counted r s x told keeps = held-faults r s keeps ∙ ap faultCount (told .1) ∙ summed-faults (x .answer)
 
-module _ (z : Sizes) (s : StateOf) (inner : ℕ) (bytes verdicts : List ℕ) (d : DueLists) where
+module _ (z : Sizes) (s : StateOf) (era inner : ℕ) (bytes verdicts : List ℕ) (d : DueLists) where
   abbrev call : ℕ → BatchCall
-  call n = placesCall inner bytes verdicts n d
+  call n = placesCall era inner bytes verdicts n d
 
   -- past row 1 the number of places does not count
   past : (m n : ℕ) (x : Read (List ContribOf)) → processedRead z s (call m) x ≡ processedRead z s (call n) x
@@ -110,7 +110,7 @@ module _ (z : Sizes) (s : StateOf) (inner : ℕ) (bytes verdicts : List ℕ) (d 
 
   -- lent the first places of two lists, the call has as many
   first-call : (ids kinds : List ℕ) (k : ℕ) → k ≤ length ids → k ≤ length kinds
-      → processed z s (lentCall inner bytes verdicts (lists (take (k - 0) ids) (take (k - 0) kinds) d)) ≡ processed z s (call k)
+      → processed z s (lentCall era inner bytes verdicts (lists (take (k - 0) ids) (take (k - 0) kinds) d)) ≡ processed z s (call k)
   first-call ids kinds k h l =
       let i : length (take (k - 0) ids) ≡ k = rw (sub-zero k) (length-take-le k ids h) in
       let j : length (take (k - 0) kinds) ≡ k = rw (sub-zero k) (length-take-le k kinds l) in
@@ -124,30 +124,30 @@ first-filled xs old part rest k h e =
     take-at part rest k (ap length w ∙ length-filled xs (take k old) ∙ length-take-le k old h) ∙ w
 
 -- the batch call on the first places of two lists does what it says of the whole lists
-pub first-done : (s : DynamicHoneyBadger) (inner : ℕ) (bytes verdicts : List ℕ) (k : ℕ) (ids kinds : List ℕ) (d : DueLists) (r : Processed) (ids′ kinds′ rest rest′ : List ℕ) (d′ : DueLists)
-    → k ≤ length ids → k ≤ length kinds → BatchDone s inner bytes verdicts (lists (take (k - 0) ids) (take (k - 0) kinds) d) r (lists ids′ kinds′ d′)
-    → FirstDone s inner bytes verdicts k ids kinds d r (ids′ ++ rest) (kinds′ ++ rest′) d′
-first-done s inner bytes verdicts k ids kinds d r ids′ kinds′ rest rest′ d′ h l e =
-    let x = processed base (stateOf s) (lentCall inner bytes verdicts (lists (take (k - 0) ids) (take (k - 0) kinds) d)) in
-    let same : x ≡ processed base (stateOf s) (placesCall inner bytes verdicts k d) = first-call base (stateOf s) inner bytes verdicts d ids kinds k h l in
-    let w : ProcessedAs r (processed base (stateOf s) (placesCall inner bytes verdicts k d))
-    × Filled (answerOf s (placesCall inner bytes verdicts k d)) (lists (take (k - 0) ids) (take (k - 0) kinds) d) (lists ids′ kinds′ d′) =
+pub first-done : (s : DynamicHoneyBadger) (era inner : ℕ) (bytes verdicts : List ℕ) (k : ℕ) (ids kinds : List ℕ) (d : DueLists) (r : Processed) (ids′ kinds′ rest rest′ : List ℕ) (d′ : DueLists)
+    → k ≤ length ids → k ≤ length kinds → BatchDone s era inner bytes verdicts (lists (take (k - 0) ids) (take (k - 0) kinds) d) r (lists ids′ kinds′ d′)
+    → FirstDone s era inner bytes verdicts k ids kinds d r (ids′ ++ rest) (kinds′ ++ rest′) d′
+first-done s era inner bytes verdicts k ids kinds d r ids′ kinds′ rest rest′ d′ h l e =
+    let x = processed base (stateOf s) (lentCall era inner bytes verdicts (lists (take (k - 0) ids) (take (k - 0) kinds) d)) in
+    let same : x ≡ processed base (stateOf s) (placesCall era inner bytes verdicts k d) = first-call base (stateOf s) era inner bytes verdicts d ids kinds k h l in
+    let w : ProcessedAs r (processed base (stateOf s) (placesCall era inner bytes verdicts k d))
+    × Filled (answerOf s (placesCall era inner bytes verdicts k d)) (lists (take (k - 0) ids) (take (k - 0) kinds) d) (lists ids′ kinds′ d′) =
     subst (λ (y : ProcessedOf). ProcessedAs r y × Filled (y .answer) (lists (take (k - 0) ids) (take (k - 0) kinds) d) (lists ids′ kinds′ d′)) same (e .0, e .3) in
     ((w .0, e .1, e .2), (first-filled _ ids ids′ rest k h (w .1 .0 .0), first-filled _ kinds kinds′ rest′ k l (w .1 .0 .1)), w .1 .1, e .4)
 
 -- and with them paired, what it says of as many places as the host lent
-pub faults-done : (s : DynamicHoneyBadger) (inner : ℕ) (bytes verdicts : List ℕ) (k n : ℕ) (ids kinds : List ℕ) (d : DueLists) (r : Answered) (ids′ kinds′ : List ℕ) (d′ : DueLists)
-    → k ≡ shorter n (base .faults) → k ≤ length ids → k ≤ length kinds → FirstDone s inner bytes verdicts k ids kinds d (r .processed) ids′ kinds′ d′
-    → recordsIn (r .faults) ≡ pairs (take (r .processed .faults) ids′) (take (r .processed .faults) kinds′) → FaultsDone s inner bytes verdicts n d r d′
-faults-done s inner bytes verdicts k n ids kinds d r ids′ kinds′ d′ c h l e p =
+pub faults-done : (s : DynamicHoneyBadger) (era inner : ℕ) (bytes verdicts : List ℕ) (k n : ℕ) (ids kinds : List ℕ) (d : DueLists) (r : Answered) (ids′ kinds′ : List ℕ) (d′ : DueLists)
+    → k ≡ shorter n (base .faults) → k ≤ length ids → k ≤ length kinds → FirstDone s era inner bytes verdicts k ids kinds d (r .processed) ids′ kinds′ d′
+    → recordsIn (r .faults) ≡ pairs (take (r .processed .faults) ids′) (take (r .processed .faults) kinds′) → FaultsDone s era inner bytes verdicts n d r d′
+faults-done s era inner bytes verdicts k n ids kinds d r ids′ kinds′ d′ c h l e p =
     let m = r .processed .faults in
-    let x = processed base (stateOf s) (placesCall inner bytes verdicts k d) in
+    let x = processed base (stateOf s) (placesCall era inner bytes verdicts k d) in
     let all : m ≡ length (faultsIn (x .answer)) = faults-counted (r .processed) s x (e .0 .0) (e .0 .1) in
-    let placed : m ≤ k = faults-placed base (stateOf s) inner bytes verdicts d k m all (e .3) in
-    let w : ProcessedAs (r .processed) (processed base (stateOf s) (placesCall inner bytes verdicts n d))
-    × (recordsIn (r .faults) ≡ map recordOf (faultsIn (answerOf s (placesCall inner bytes verdicts n d)))) × DueDone (answerOf s (placesCall inner bytes verdicts n d)) d d′ =
+    let placed : m ≤ k = faults-placed base (stateOf s) era inner bytes verdicts d k m all (e .3) in
+    let w : ProcessedAs (r .processed) (processed base (stateOf s) (placesCall era inner bytes verdicts n d))
+    × (recordsIn (r .faults) ≡ map recordOf (faultsIn (answerOf s (placesCall era inner bytes verdicts n d)))) × DueDone (answerOf s (placesCall era inner bytes verdicts n d)) d d′ =
     subst (λ (y : ProcessedOf). ProcessedAs (r .processed) y × (recordsIn (r .faults) ≡ map recordOf (faultsIn (y .answer))) × DueDone (y .answer) d d′)
-    (capped base (stateOf s) inner bytes verdicts d k n c) (e .0 .0, p ∙ lists-paired (faultsIn (x .answer)) m k ids ids′ kinds kinds′ all placed h l (e .1), e .2) in
+    (capped base (stateOf s) era inner bytes verdicts d k n c) (e .0 .0, p ∙ lists-paired (faultsIn (x .answer)) m k ids ids′ kinds kinds′ all placed h l (e .1), e .2) in
     ((w .0, e .0 .1, e .0 .2), w .1, w .2)
 
 -- the loop over the elements below a count of an array: a list that is filled with those before place i

@@ -31,13 +31,13 @@ pub record DueLists : Type 0 where
   pub eras : List ℕ
 
 -- the call that a number of places for faults and the lent lists of due items make
-abbrev pub placesCall : ℕ → List ℕ → List ℕ → ℕ → DueLists → BatchCall
-placesCall inner bytes verdicts places d =
-    record { inner = inner; bytes = bytes; verdicts = verdicts; fault-places = places; due-places = duePlaces (d .kinds) (d .indices) (d .eras) }
+abbrev pub placesCall : ℕ → ℕ → List ℕ → List ℕ → ℕ → DueLists → BatchCall
+placesCall era inner bytes verdicts places d =
+    record { era = era; inner = inner; bytes = bytes; verdicts = verdicts; fault-places = places; due-places = duePlaces (d .kinds) (d .indices) (d .eras) }
 
 -- and the one that a lent list of records makes
-abbrev pub recordsCall : ℕ → List ℕ → List ℕ → List FaultRecord → DueLists → BatchCall
-recordsCall inner bytes verdicts faults d = placesCall inner bytes verdicts (length faults) d
+abbrev pub recordsCall : ℕ → ℕ → List ℕ → List ℕ → List FaultRecord → DueLists → BatchCall
+recordsCall era inner bytes verdicts faults d = placesCall era inner bytes verdicts (length faults) d
 
 -- the records of any value of the struct: those below the count, as far as the array reaches
 abbrev pub recordsIn : FaultRecords → List FaultRecord
@@ -66,20 +66,20 @@ abbrev pub DueDone : Outcome ReportOf → DueLists → DueLists → Type 0
 DueDone a d d′ = DueIn (dueIn a) (d .kinds) (d′ .kinds) (d .indices) (d′ .indices) (d .eras) (d′ .eras)
 
 -- the batch call with the first places of two lists of faults
-abbrev pub FirstDone : DynamicHoneyBadger → ℕ → List ℕ → List ℕ → ℕ → List ℕ → List ℕ → DueLists → Processed → List ℕ → List ℕ → DueLists → Type 0
-FirstDone s inner bytes verdicts places ids kinds d r ids′ kinds′ d′ =
-    let b = placesCall inner bytes verdicts places d in
+abbrev pub FirstDone : DynamicHoneyBadger → ℕ → ℕ → List ℕ → List ℕ → ℕ → List ℕ → List ℕ → DueLists → Processed → List ℕ → List ℕ → DueLists → Type 0
+FirstDone s era inner bytes verdicts places ids kinds d r ids′ kinds′ d′ =
+    let b = placesCall era inner bytes verdicts places d in
     BatchAnswered r s b × FaultsIn (faultsIn (answerOf s b)) (take places ids) (take places ids′) (take places kinds) (take places kinds′)
     × DueDone (answerOf s b) d d′ × (r .faults ≤ base .faults)
 
 -- the batch call with its faults beside the answer
-abbrev pub FaultsDone : DynamicHoneyBadger → ℕ → List ℕ → List ℕ → ℕ → DueLists → Answered → DueLists → Type 0
-FaultsDone s inner bytes verdicts places d r d′ =
-    let b = placesCall inner bytes verdicts places d in
+abbrev pub FaultsDone : DynamicHoneyBadger → ℕ → ℕ → List ℕ → List ℕ → ℕ → DueLists → Answered → DueLists → Type 0
+FaultsDone s era inner bytes verdicts places d r d′ =
+    let b = placesCall era inner bytes verdicts places d in
     BatchAnswered (r .processed) s b × (recordsIn (r .faults) ≡ map recordOf (faultsIn (answerOf s b))) × DueDone (answerOf s b) d d′
 
 -- the batch call with a lent list of records, whole; a refused call has no faults and no due items, so its lists are as they were
-abbrev pub RecordsDone : DynamicHoneyBadger → ℕ → List ℕ → List ℕ → List FaultRecord → DueLists → Processed → List FaultRecord → DueLists → Type 0
-RecordsDone s inner bytes verdicts faults d r faults′ d′ =
-    let b = recordsCall inner bytes verdicts faults d in
+abbrev pub RecordsDone : DynamicHoneyBadger → ℕ → ℕ → List ℕ → List ℕ → List FaultRecord → DueLists → Processed → List FaultRecord → DueLists → Type 0
+RecordsDone s era inner bytes verdicts faults d r faults′ d′ =
+    let b = recordsCall era inner bytes verdicts faults d in
     BatchAnswered r s b × (faults′ ≡ filled (map recordOf (faultsIn (answerOf s b))) faults) × DueDone (answerOf s b) d d′

@@ -78,6 +78,7 @@ fn paired(ids: &[u32], kinds: &[u8], n: usize) -> FaultRecords
 // The batch call with the first places of two lists of faults.
 fn process_first(
     state: DynamicHoneyBadger,
+    batch_era: u64,
     inner: u64,
     batch: &[u8],
     verdicts: &[u8],
@@ -89,13 +90,14 @@ fn process_first(
     due_eras: &mut [u64],
 ) -> Processed
     requires { ⌜ (places ≤ length (now ids)) × (places ≤ length (now kinds)) ⌝ }
-    ensures { λ r. ⌜ FirstDone state inner (now (batch .entry)) (now (verdicts .entry)) places (now (ids .entry)) (now (kinds .entry))
+    ensures { λ r. ⌜ FirstDone state «batch_era» inner (now (batch .entry)) (now (verdicts .entry)) places (now (ids .entry)) (now (kinds .entry))
         (record { kinds = now («due_kinds» .entry); indices = now («due_indices» .entry); eras = now («due_eras» .entry) })
         r (now (ids .exit)) (now (kinds .exit))
         (record { kinds = now («due_kinds» .exit); indices = now («due_indices» .exit); eras = now («due_eras» .exit) }) ⌝ }
 {
     process_batch::process_batch(
         state,
+        batch_era,
         inner,
         batch,
         verdicts,
@@ -110,6 +112,7 @@ fn process_first(
 // The batch call for a number of places of the list of records: its due items are written, its faults stand beside the answer.
 fn process_faults(
     state: DynamicHoneyBadger,
+    batch_era: u64,
     inner: u64,
     batch: &[u8],
     verdicts: &[u8],
@@ -118,7 +121,7 @@ fn process_faults(
     due_indices: &mut [u64],
     due_eras: &mut [u64],
 ) -> Answered
-    ensures { λ r. ⌜ FaultsDone state inner (now (batch .entry)) (now (verdicts .entry)) «fault_places»
+    ensures { λ r. ⌜ FaultsDone state «batch_era» inner (now (batch .entry)) (now (verdicts .entry)) «fault_places»
         (record { kinds = now («due_kinds» .entry); indices = now («due_indices» .entry); eras = now («due_eras» .entry) })
         r
         (record { kinds = now («due_kinds» .exit); indices = now («due_indices» .exit); eras = now («due_eras» .exit) }) ⌝ }
@@ -128,6 +131,7 @@ fn process_faults(
     let places = filled::shorter_of(fault_places, FaultLog::LIMIT);
     let processed = process_first(
         state,
+        batch_era,
         inner,
         batch,
         verdicts,
@@ -169,9 +173,10 @@ fn write_faults(list: &mut [FaultRecord], records: FaultRecords)
     }
 }
 
-// A batch. Row 1 where a lent list is shorter than its size.
+// A batch, with the era in which it was agreed and its inner epoch there. Row 1 where a lent list is shorter than its size.
 pub fn process_batch_records(
     state: DynamicHoneyBadger,
+    batch_era: u64,
     inner: u64,
     batch: &[u8],
     verdicts: &[u8],
@@ -180,7 +185,7 @@ pub fn process_batch_records(
     due_indices: &mut [u64],
     due_eras: &mut [u64],
 ) -> Processed
-    ensures { λ r. ⌜ RecordsDone state inner (now (batch .entry)) (now (verdicts .entry)) (now (faults .entry))
+    ensures { λ r. ⌜ RecordsDone state «batch_era» inner (now (batch .entry)) (now (verdicts .entry)) (now (faults .entry))
         (record { kinds = now («due_kinds» .entry); indices = now («due_indices» .entry); eras = now («due_eras» .entry) })
         r (now (faults .exit))
         (record { kinds = now («due_kinds» .exit); indices = now («due_indices» .exit); eras = now («due_eras» .exit) }) ⌝ }
@@ -188,6 +193,7 @@ pub fn process_batch_records(
     let n = faults.len();
     let answered = process_faults(
         state,
+        batch_era,
         inner,
         batch,
         verdicts,

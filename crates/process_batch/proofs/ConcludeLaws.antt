@@ -27,7 +27,7 @@ use Rattle.key_gen_state.specs.KeyGenState as running
 use Rattle.vote_counter.specs.declared.VoteCounter.{VoteCounter}
 use Rattle.vote_counter.specs.VoteCounter.{counterOf, computeWinner, withCommitted}
 use Rattle.vote_counter.proofs.FewLaws.{few-votes}
-use Rattle.dynamic_honey_badger.specs.State.{StateOf}
+use Rattle.dynamic_honey_badger.specs.State.{StateOf, Stamp}
 use Rattle.steps.specs.Steps.{WorkOf, oweTo}
 use Rattle.commit.specs.declared.Committed.{Committed}
 use Rattle.commit.specs.Tally.{entriesOf, VotesHeld}
@@ -88,10 +88,10 @@ module _ (era : ℕ) (s : StateOf) (e : Found ChangeOf) (h : e ≡ computeWinner
   decide-by = ap (decideBy base era s) h
 
 -- what the definition gives, and what code gives beside it
-module _ (p : Params) (c : VoteCounter) (k : KeyGenState) (st : List SignedKeyGenMsgOf) (epoch : ℕ) (w : WorkOf) where
+module _ (p : Params) (c : VoteCounter) (k : KeyGenState) (st : List SignedKeyGenMsgOf) (l : Found Stamp) (epoch : ℕ) (w : WorkOf) where
   -- row 7
   pub void-as : emptyWins (w .state) ≡ true
-      → RanAs (asGiven p c k 7) p c k st (w .state .store) (w .faults) (w .due) (cond (emptyWins (w .state)) (denied (partsOf p c k st) 7) (finished base (partsOf p c k st) epoch w))
+      → RanAs (asGiven p c k 7) p c k st (w .state .store) (w .faults) (w .due) (cond (emptyWins (w .state)) (denied (partsOf p c k st l) 7) (finished base (partsOf p c k st l) epoch w))
   void-as e =
       subst (RanAs (asGiven p c k 7) p c k st (w .state .store) (w .faults) (w .due)) (sym (cond-yes _ _ e))
       (record {
@@ -109,12 +109,12 @@ module _ (p : Params) (c : VoteCounter) (k : KeyGenState) (st : List SignedKeyGe
 
   -- a decision
   module _ (m : Committed) (faults : length (w .faults) ≡ m .faults) (due : length (w .due) ≡ m .due) (few : m .due ≤ base .due)
-      (d : Decision) (bare : NoRecipeEmpty (d .«has_recipe») (d .recipe)) (decided : decidedOf (epoch + 1) (w .state .store) d ≡ decide base (epoch + 1) (w .state)) where
+      (d : Decision) (bare : NoRecipeEmpty (d .«has_recipe») (d .recipe)) (decided : decidedOf (epoch + 1) (w .state .store) (w .state .last) d ≡ decide base (epoch + 1) (w .state)) where
     pub decided-as : emptyWins (w .state) ≡ false
-        → RanAs (settledBy d (c .era) epoch m) p c k st (w .state .store) (w .faults) (w .due) (cond (emptyWins (w .state)) (denied (partsOf p c k st) 7) (finished base (partsOf p c k st) epoch w))
+        → RanAs (settledBy d (c .era) epoch m) p c k st (w .state .store) (w .faults) (w .due) (cond (emptyWins (w .state)) (denied (partsOf p c k st l) 7) (finished base (partsOf p c k st l) epoch w))
     decided-as e =
-        let s = partsOf p c k st in
-        let x : reported base s epoch w (decidedOf (epoch + 1) (w .state .store) d) ≡ cond (emptyWins (w .state)) (denied s 7) (finished base s epoch w)
+        let s = partsOf p c k st l in
+        let x : reported base s epoch w (decidedOf (epoch + 1) (w .state .store) (w .state .last) d) ≡ cond (emptyWins (w .state)) (denied s 7) (finished base s epoch w)
         = ap (reported base s epoch w) decided ∙ sym (cond-no _ _ e) in
         subst (RanAs (settledBy d (c .era) epoch m) p c k st (w .state .store) (w .faults) (w .due)) x
         (record {
@@ -141,37 +141,37 @@ module _ (s : List ℕ) (p : Params) (c after : VoteCounter) (k : KeyGenState) (
   -- the state of the work is what the parts make
   whole : (w : WorkOf) → VotesHeld s (votesOf (c .committed)) w (c .era) (nodesOf (c .«pub_keys»)) (m .tally)
       → w .state .counter ≡ withCommitted (counterOf c) (w .state .counter .committed) → w .state .params ≡ p → w .state .key-gen ≡ running.stateOf (m .state)
-      → partsOf p after (m .state) (w .state .store) ≡ w .state
+      → partsOf p after (m .state) (w .state .store) (w .state .last) ≡ w .state
   whole w held counter params key =
       let stayed : counterOf after ≡ w .state .counter = put ∙ put-stayed s (counterOf c) w (m .tally) held ∙ sym counter in
-      λ i. record { counter = stayed i; params = sym params i; key-gen = sym key i; store = w .state .store }
+      λ i. record { counter = stayed i; params = sym params i; key-gen = sym key i; store = w .state .store; last = w .state .last }
 
   -- row 7 by them
-  voids : (w : WorkOf) → partsOf p after (m .state) (w .state .store) ≡ w .state
+  voids : (w : WorkOf) → partsOf p after (m .state) (w .state .store) (w .state .last) ≡ w .state
       → emptyWins (w .state) ≡ cond (running.readyState (running.stateOf (m .state))) false (isEmptyMap (electedOf e))
-  voids w all = sym (ap emptyWins all) ∙ empty-by (epoch + 1) (partsOf p after (m .state) (w .state .store)) (electedOf e) elected
+  voids w all = sym (ap emptyWins all) ∙ empty-by (epoch + 1) (partsOf p after (m .state) (w .state .store) (w .state .last)) (electedOf e) elected
 
   pub void-concluded : cond (running.readyState (running.stateOf (m .state))) false (isEmptyMap (electedOf e)) ≡ true → Concluded s p c k epoch m (asGiven p c k 7)
-  void-concluded v w st held counter params key faults due = void-as p c k st epoch w (voids w (whole w held counter params key) ∙ v)
+  void-concluded v w st l held counter params key faults due = void-as p c k st l epoch w (voids w (whole w held counter params key) ∙ v)
 
   pub decided-concluded : cond (running.readyState (running.stateOf (m .state))) false (isEmptyMap (electedOf e)) ≡ false → m .due ≤ base .due
       → (d : Decision) → NoRecipeEmpty (d .«has_recipe») (d .recipe)
-      → ((st : List SignedKeyGenMsgOf) → decidedOf (epoch + 1) st d ≡ decideBy base (epoch + 1) (partsOf p after (m .state) st) (electedOf e))
+      → ((st : List SignedKeyGenMsgOf) (l : Found Stamp) → decidedOf (epoch + 1) st l d ≡ decideBy base (epoch + 1) (partsOf p after (m .state) st l) (electedOf e))
       → Concluded s p c k epoch m (settledBy d (c .era) epoch m)
-  decided-concluded v few d bare decided w st held counter params key faults due =
+  decided-concluded v few d bare decided w st l held counter params key faults due =
       let all = whole w held counter params key in
-      let t = partsOf p after (m .state) (w .state .store) in
-      decided-as p c k st epoch w m faults due few d bare
-      (decided (w .state .store) ∙ decide-by (epoch + 1) t (electedOf e) elected ∙ ap (decide base (epoch + 1)) all) (voids w all ∙ v)
+      let t = partsOf p after (m .state) (w .state .store) (w .state .last) in
+      decided-as p c k st l epoch w m faults due few d bare
+      (decided (w .state .store) (w .state .last) ∙ decide-by (epoch + 1) t (electedOf e) elected ∙ ap (decide base (epoch + 1)) all) (voids w all ∙ v)
 
 -- a batch of which no vote stayed, with so few votes that nobody wins and key generation not ready, decides nothing: its state is the parts that were given, with
 -- key generation as the messages left it
 pub quiet-concluded : (s : List ℕ) (p : Params) (c : VoteCounter) (k : KeyGenState) (epoch : ℕ) (d : Committed) → Quiet d (nodesOf (c .«pub_keys»)) → d .due ≤ base .due
     → Concluded s p c k epoch d (record { params = p; «vote_counter» = c; «key_gen_state» = d .state; told = nothingDecided epoch (c .era) (c .«pub_keys») p (d .faults) (d .due) })
-quiet-concluded s p c k epoch d q few w st held =
+quiet-concluded s p c k epoch d q few w st l held =
     let votes = tallied-length s (c .era) (nodesOf (c .«pub_keys»)) (held .by-entry) in
     let nobody : nothing ≡ computeWinner (counterOf c) = sym (few-votes (counterOf c) (omega (arith, votes, q .few))) in
     decided-concluded s p c c k epoch d (record { found = false; change = changeHeld (nodeChange []) })
     (sym (put-nothing base s (counterOf c) (entriesOf (d .tally)) (q .none-stayed))) nobody
     (cond-no _ _ (q .not-ready)) few (withoutRecipe p c (d .state) false (stateHeld none) false) (λ e. refl)
-    (λ store. sym (by-elects base (epoch + 1) (partsOf p c (d .state) store) nothing (q .not-ready))) w st held
+    (λ store last. sym (by-elects base (epoch + 1) (partsOf p c (d .state) store last) nothing (q .not-ready))) w st l held

@@ -6,6 +6,8 @@ use mathlib.Core.List.{List, [], _++_, map}
 use native.Mathlib.Omega.{arith}
 use lib.ListN.{length, take}
 use lib.Seq.{take-at}
+use Rattle.lists.specs.Lists.{found}
+use Rattle.bincode.specs.Outcome.{Outcome, done, refused}
 use Rattle.bincode.specs.Sizes.{base}
 use Rattle.filled.specs.Filled.{filled}
 use Rattle.filled.specs.Numbers.{faultId, kindNumber, dueIndex, FaultsIn, DueIn}
@@ -19,16 +21,18 @@ use Rattle.key_gen_state.specs.KeyGenState as running
 use Rattle.vote_counter.specs.declared.VoteCounter.{VoteCounter}
 use Rattle.message_store.specs.MessageStore.{storeOf}
 use Rattle.dynamic_honey_badger.specs.declared.DynamicHoneyBadger.{DynamicHoneyBadger}
-use Rattle.dynamic_honey_badger.specs.State.{stateOf}
+use Rattle.dynamic_honey_badger.specs.declared.ReportStamp.{ReportStamp}
+use Rattle.dynamic_honey_badger.specs.State.{stateOf, stampHeld}
 use Rattle.steps.specs.Held.{ackItem}
 use Rattle.commit.specs.Batch.{Lists}
-use Rattle.process_output.specs.Process.{ProcessedOf}
+use Rattle.process_output.specs.Process.{BatchCall, ReportOf, ProcessedOf, lastAfter, processed}
+use Rattle.process_output.proofs.CallLaws.{processed-last}
 use Rattle.process_batch.specs.declared.BatchOutcome.{BatchOutcome}
 use Rattle.process_batch.specs.declared.BatchOutcome.the-variants as outcome
 use Rattle.process_batch.specs.declared.Told.{Told}
 use Rattle.process_batch.specs.declared.Settled.{Settled}
 use Rattle.process_batch.specs.declared.Processed.{Processed}
-use Rattle.process_batch.specs.Answer.{partBehind, ProcessedAs, BatchRefusedKeeps}
+use Rattle.process_batch.specs.Answer.{Summary, summary, summed, saidBatch, heldSummary, partBehind, lastBy, ProcessedAs, BatchRefusedKeeps}
 use Rattle.process_batch.specs.Worked.{RanAs, storeBy, listBy}
 use Rattle.process_batch.specs.Lent.{faultsIn, dueIn}
 
@@ -120,21 +124,35 @@ answered s t =
       recipe = t .report .recipe;
     }
 
-module _ (s u : DynamicHoneyBadger) (t : Told) (kept : List SignedKeyGenMsgOf) (fs : List Fault) (ds : List DueItem) (x : ProcessedOf)
-    (h : RanAs (partsIn u t) (s .params) (s .«vote_counter») (s .«key_gen_state») (storeOf (s .store)) kept fs ds x)
-    (stored : storeOf (u .store) ≡ storeBy (t .report .outcome) (t .restarted) (t .era) (storeOf (s .store)) kept)
-    (same : (n : ℕ) → t .report .outcome ≡ outcome.Refused n → u .store ≡ s .store) where
+-- the last report as code keeps it is the one that the answer says
+last-said : (o : BatchOutcome) (y : Summary) (l : ReportStamp) (a : Outcome ReportOf) → saidBatch o y ≡ summed a
+    → stampHeld (lastBy o (y .batch .epoch) (y .batch .era) l) ≡ lastAfter (stampHeld l) a
+last-said outcome.Reported y l (done r) e = let q : y ≡ summary r = cc in λ j. found (record { epoch = q j .batch .epoch; era = q j .batch .era })
+last-said outcome.Reported y l (refused n) e = absurd (let z : _≡_ {A = ℕ} 0 1 = cc in let w : ⊥ = omega arith in w)
+last-said (outcome.Refused n) y l (done r) e = absurd (let z : _≡_ {A = ℕ} 0 1 = cc in let w : ⊥ = omega arith in w)
+last-said (outcome.Refused n) y l (refused m) e = refl
+
+-- the whole call, of the state s: v is the state behind the store, u that with the last report
+module _ (s v u : DynamicHoneyBadger) (t : Told) (kept : List SignedKeyGenMsgOf) (fs : List Fault) (ds : List DueItem) (b : BatchCall)
+    (h : RanAs (partsIn v t) (s .params) (s .«vote_counter») (s .«key_gen_state») (storeOf (s .store)) kept fs ds (processed base (stateOf s) b))
+    (stored : storeOf (v .store) ≡ storeBy (t .report .outcome) (t .restarted) (t .era) (storeOf (s .store)) kept)
+    (same : (n : ℕ) → t .report .outcome ≡ outcome.Refused n → v .store ≡ s .store) (l : ReportStamp)
+    (by-last : l ≡ lastBy (t .report .outcome) (t .report .batch .epoch) (t .report .batch .era) (s .last))
+    (ends : u ≡ record { params = v .params; «vote_counter» = v .«vote_counter»; «key_gen_state» = v .«key_gen_state»; store = v .store; last = l }) where
   -- state and report
-  pub answered-as : ProcessedAs (answered u t) x
+  pub answered-as : ProcessedAs (answered u t) (processed base (stateOf s) b)
   answered-as =
       let q = stored ∙ h .by-store in
-      let e : stateOf u ≡ x .state = λ j. record { counter = h .by-counter j; params = h .by-params j; key-gen = h .by-key-gen j; store = q j } in
+      let kept-last = ap stampHeld by-last ∙ last-said (t .report .outcome) (heldSummary (t .report)) (s .last) (processed base (stateOf s) b .answer) (h .by-report) ∙ sym (processed-last base (stateOf s) b) in
+      let e : stateOf u ≡ processed base (stateOf s) b .state
+      = ap stateOf ends ∙ (λ j. record { counter = h .by-counter j; params = h .by-params j; key-gen = h .by-key-gen j; store = q j; last = kept-last j }) in
       (e, h .by-report)
 
   -- the very state beside a refusal
   pub answered-keeps : BatchRefusedKeeps (answered u t) s
   answered-keeps n e =
       let g = h .refused-keeps n e in
+      let left = by-last ∙ ap (λ (o : BatchOutcome). lastBy o (t .report .batch .epoch) (t .report .batch .era) (s .last)) e in
       let a : u ≡ s =
-      λ j. record { params = g j .params; «vote_counter» = g j .«vote_counter»; «key_gen_state» = g j .«key_gen_state»; store = same n e j } in
+      ends ∙ (λ j. record { params = g j .params; «vote_counter» = g j .«vote_counter»; «key_gen_state» = g j .«key_gen_state»; store = same n e j; last = left j }) in
       λ j. answered (a j) (g j .told)

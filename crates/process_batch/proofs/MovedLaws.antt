@@ -45,6 +45,7 @@ pub record Moved (s : DynamicHoneyBadger) (b : BatchCall) (w : Worked) (l : List
   pub noted : Noted faults due (s .«vote_counter» .era) l
   pub few : length faults ≤ base .faults
   pub same-store : u .store ≡ s .store
+  pub same-last : u .last ≡ s .last
   pub left : t .report .outcome ≡ outcome.Reported
       → keptBy (b .bytes) (contribsIn (w .index)) (t .restarted) (t .era) (storeOf (s .store)) ≡ cond (t .restarted) (fromEra (t .era) kept) kept
   pub none-left : t .report .outcome ≡ outcome.Reported → storeOf (s .store) ≡ [] → cond (t .restarted) (fromEra (t .era) kept) kept ≡ []
@@ -54,7 +55,7 @@ module _ (s : DynamicHoneyBadger) (b : BatchCall) (bytes : Bytes (b .bytes)) (w 
     (few : w .committed .faults ≤ base .faults) (owed : w .committed .due ≤ base .due) where
   -- the state that parts make, with the store as it was
   abbrev moved : Settled → DynamicHoneyBadger
-  moved d = record { params = d .params; «vote_counter» = d .«vote_counter»; «key_gen_state» = d .«key_gen_state»; store = s .store }
+  moved d = record { params = d .params; «vote_counter» = d .«vote_counter»; «key_gen_state» = d .«key_gen_state»; store = s .store; last = s .last }
 
   -- steps 6 to 8 concluded
   concluded : (epoch : ℕ) → WorkedBy (stateOf s) b (s .«key_gen_state») w l₀ l (opening.Epoch epoch) → (d : Settled)
@@ -68,6 +69,7 @@ module _ (s : DynamicHoneyBadger) (b : BatchCall) (bytes : Bytes (b .bytes)) (w 
         noted = work-noted s b epoch w l₀ l g ids kinds indices few owed;
         few = omega (arith, g .holds .faults .count, few);
         same-store = refl;
+        same-last = refl;
         left = λ e. store-kept (stateOf s) b epoch w l₀ l g bytes (d .told .restarted) (d .told .era);
         none-left = λ e n. store-none (stateOf s) b epoch w l₀ l g bytes n (d .told .restarted) (d .told .era);
       }
@@ -77,9 +79,9 @@ module _ (s : DynamicHoneyBadger) (b : BatchCall) (bytes : Bytes (b .bytes)) (w 
   moved-settled (opening.Epoch epoch) g e d h = concluded epoch g d h
   moved-settled (opening.Refused n) g e d h = absurd e
 
-  -- nothing is decided, or rows 1 to 6 refuse
+  -- nothing is decided, or a row before 7 refuses
   pub moved-quiet : (o : Opening) → WorkedBy (stateOf s) b (s .«key_gen_state») w l₀ l o → QuietBy o (w .committed) (nodesOf (s .«vote_counter» .«pub_keys»))
-      → Moved s b w l (record { params = s .params; «vote_counter» = s .«vote_counter»; «key_gen_state» = w .committed .state; store = s .store })
+      → Moved s b w l (record { params = s .params; «vote_counter» = s .«vote_counter»; «key_gen_state» = w .committed .state; store = s .store; last = s .last })
       (quietTold o (w .committed) (s .«vote_counter» .era) (s .«vote_counter» .«pub_keys») (s .params))
   moved-quiet (opening.Epoch epoch) g q =
       concluded epoch g _ (quiet-concluded (b .bytes) (s .params) (s .«vote_counter») (s .«key_gen_state») epoch (w .committed) q owed)
@@ -95,6 +97,7 @@ module _ (s : DynamicHoneyBadger) (b : BatchCall) (bytes : Bytes (b .bytes)) (w 
         noted = none-noted (s .«vote_counter» .era) l;
         few = omega arith;
         same-store = refl;
+        same-last = refl;
         left = λ e. absurd (no-report n e);
         none-left = λ e m. absurd (no-report n e);
       }
@@ -131,21 +134,23 @@ pub next-fits : (o : Opening) → EpochFits o → epochOf o + 1 < 2 ^ 64
 next-fits (opening.Epoch epoch) f = f
 next-fits (opening.Refused n) f = lit< tt
 
--- behind the store: the other parts are the steps', the store is the definition's, and a refusal keeps the very store
+-- behind the store: the other parts are the steps', the store is the definition's, a refusal keeps the very store, and the last report is still the one before
 pub record Stored (s u v : DynamicHoneyBadger) (t : Told) (kept : List SignedKeyGenMsgOf) : Type 0 where
   pub parts : partsIn v t ≡ partsIn u t
   pub store : storeOf (v .store) ≡ storeBy (t .report .outcome) (t .restarted) (t .era) (storeOf (s .store)) kept
   pub same : (n : ℕ) → t .report .outcome ≡ outcome.Refused n → v .store ≡ s .store
+  pub same-last : v .last ≡ s .last
 
 module _ (s : DynamicHoneyBadger) (b : BatchCall) (w : Worked) (l : Lists) (u v : DynamicHoneyBadger) (t : Told) (h : Moved s b w l u t) where
   pub stored-changed : (some : Bool) → isStirred (t .report .outcome) some ≡ true → (k : MessageStore)
-      → v ≡ record { params = u .params; «vote_counter» = u .«vote_counter»; «key_gen_state» = u .«key_gen_state»; store = k }
+      → v ≡ record { params = u .params; «vote_counter» = u .«vote_counter»; «key_gen_state» = u .«key_gen_state»; store = k; last = u .last }
       → storeOf k ≡ keptBy (b .bytes) (contribsIn (w .index)) (t .restarted) (t .era) (storeOf (u .store)) → Stored s u v t (h .kept)
   stored-changed some q k e m =
       record {
         parts = ap (λ (y : DynamicHoneyBadger). partsIn y t) e;
         store = ap (λ (y : DynamicHoneyBadger). storeOf (y .store)) e ∙ stirred s b w l u t h (t .report .outcome) refl some q k m;
         same = λ n r. absurd (never-stirred n some (ap (λ (o : BatchOutcome). isStirred o some) (sym r) ∙ q));
+        same-last = ap (λ (y : DynamicHoneyBadger). y .last) e ∙ h .same-last;
       }
 
   pub stored-same : isStirred (t .report .outcome) (ltb 0 (s .store .count)) ≡ false → v ≡ u → Stored s u v t (h .kept)
@@ -154,6 +159,7 @@ module _ (s : DynamicHoneyBadger) (b : BatchCall) (w : Worked) (l : Lists) (u v 
         parts = ap (λ (y : DynamicHoneyBadger). partsIn y t) e;
         store = ap (λ (y : DynamicHoneyBadger). storeOf (y .store)) e ∙ unstirred s b w l u t h (t .report .outcome) refl q;
         same = λ n r. ap (λ (y : DynamicHoneyBadger). y .store) e ∙ h .same-store;
+        same-last = ap (λ (y : DynamicHoneyBadger). y .last) e ∙ h .same-last;
       }
 
   -- the steps' answer, of the state with its store

@@ -1,4 +1,4 @@
--- A batch of a state from its rows 1 to 6 on: what was worked out and what was concluded give the batch step's answer, and what the lists and the store then hold.
+-- A batch of a state, from the rows before 7 on: what was worked out and what was concluded give the batch step's answer, and what the lists and the store then hold.
 -- Assumes nothing.
 use Prim.Native.Nat.{ℕ, _≤_}
 use mathlib.Core.Path.{_≡_, refl, sym, ap, _∙_, subst}
@@ -9,7 +9,7 @@ use Rattle.bincode.specs.Sizes.{base}
 use Rattle.filled.specs.Numbers.{faultId, kindNumber, dueIndex}
 use Rattle.message_store.specs.MessageStore.{storeOf}
 use Rattle.dynamic_honey_badger.specs.declared.DynamicHoneyBadger.{DynamicHoneyBadger}
-use Rattle.dynamic_honey_badger.specs.State.{stateOf}
+use Rattle.dynamic_honey_badger.specs.State.{stateOf, stampHeld}
 use Rattle.steps.specs.Steps.{WorkOf, committed, begun}
 use Rattle.steps.proofs.KeepLaws.{batch-counter, batch-params}
 use Rattle.commit.specs.Batch.{Lists}
@@ -28,7 +28,7 @@ pub no-report : (n : ℕ) → _≡_ {A = BatchOutcome} (outcome.Refused n) outco
 no-report n e = never-refused n (sym e)
 
 module _ (s : DynamicHoneyBadger) (b : BatchCall) where
-  -- rows 1 to 6 refuse
+  -- a row before 7 refuses
   pub ran-refused : (n : ℕ) → processed base (stateOf s) b ≡ denied (stateOf s) n
       → RanAs (asGiven (s .params) (s .«vote_counter») (s .«key_gen_state») n) (s .params) (s .«vote_counter») (s .«key_gen_state») (storeOf (s .store)) [] [] [] (processed base (stateOf s) b)
   ran-refused n e =
@@ -57,7 +57,7 @@ module _ (s : DynamicHoneyBadger) (b : BatchCall) where
     unfolding committed
     ran-concluded r h =
         subst (RanAs r (s .params) (s .«vote_counter») (s .«key_gen_state») (storeOf (s .store)) (workOf .state .store) (workOf .faults) (workOf .due)) (sym (g .answer))
-        (h workOf (storeOf (s .store)) (g .holds .votes) (batch-counter base (g .contribs) (begun (stateOf s) (b .verdicts))) (batch-params base (g .contribs) (begun (stateOf s) (b .verdicts)))
+        (h workOf (storeOf (s .store)) (stampHeld (s .last)) (g .holds .votes) (batch-counter base (g .contribs) (begun (stateOf s) (b .verdicts))) (batch-params base (g .contribs) (begun (stateOf s) (b .verdicts)))
         (g .holds .messages .by-key-gen) (g .holds .faults .count) (g .holds .messages .count))
 
     -- the call's own lists hold its faults and acks

@@ -40,7 +40,7 @@ pub empty-kept : (s : List ℕ) (ks : List Contrib) (restarted : Bool) (era : �
 empty-kept s ks restarted era st e =
     none-left restarted era (withoutEntries (entriesIn s ks) st) (ap (withoutEntries (entriesIn s ks)) e ∙ empty-without (entriesIn s ks))
 
--- a batch that rows 1 to 6 let pass
+-- a batch that all rows but 7 let pass
 module _ (st : StateOf) (b : BatchCall) (epoch : ℕ) (w : Worked) (l l′ : Lists) (h : Working st b epoch w l l′) (bytes : Bytes (b .bytes)) where
   store-left : withoutEntries (entriesIn (b .bytes) (contribsIn (w .index))) (st .store) ≡ committed base st (b .verdicts) (h .contribs) .state .store
   unfolding committed

@@ -1,4 +1,4 @@
--- Rows 1 to 6 with steps 2 to 5: what was opened and what was committed, of every state that has the era, the map, key generation and the committed votes.
+-- All rows but 7 with steps 2 to 5: what was opened and what was committed, of every state that has the era, the map, key generation and the committed votes.
 -- Assumes nothing.
 use Prim.Native.Nat.{ℕ, _+_, _^_, _<_}
 use mathlib.Core.Path.{_≡_, refl, sym, ap, _∙_, subst}

@@ -2,7 +2,7 @@
 use Prim.Native.Nat.{ℕ, _+_, _^_, _≤_, _<_}
 use mathlib.Core.Path.{_≡_}
 use mathlib.Core.List.{List, [], _∷_, _++_, map}
-use mathlib.Core.Bool.{Bool, false, cond}
+use mathlib.Core.Bool.{Bool, true, false, cond}
 use lib.Dec.{ltb}
 use lib.ListN.{length, take}
 use Rattle.lists.specs.Lists.{Found}
@@ -24,6 +24,7 @@ use Rattle.vote_counter.specs.declared.VoteCounter.{VoteCounter}
 use Rattle.message_store.specs.MessageStore.{fromEra}
 use Rattle.internal_contrib.specs.declared.Contrib.{Contrib}
 use Rattle.dynamic_honey_badger.specs.declared.DynamicHoneyBadger.{DynamicHoneyBadger}
+use Rattle.dynamic_honey_badger.specs.declared.ReportStamp.{ReportStamp}
 use Rattle.dynamic_honey_badger.specs.State.{stateOf}
 use Rattle.filled.specs.Numbers.{dueIndex, DueIn}
 use Rattle.steps.specs.Held.{ackItem}
@@ -61,9 +62,11 @@ abbrev pub saidBatch : BatchOutcome → Summary → Outcome Summary
 saidBatch outcome.Reported x = done x
 saidBatch (outcome.Refused n) x = refused n
 
+abbrev pub heldSummary : Report → Summary
+heldSummary r = record { batch = batchOf (r .batch); faults = r .faults; due = r .due; recipe = saidRecipe (r .«has_recipe») (r .recipe) }
+
 abbrev pub reportOf : Report → Outcome Summary
-reportOf r =
-    saidBatch (r .outcome) (record { batch = batchOf (r .batch); faults = r .faults; due = r .due; recipe = saidRecipe (r .«has_recipe») (r .recipe) })
+reportOf r = saidBatch (r .outcome) (heldSummary r)
 
 -- what stands beside a refusal: the empty report, no faults, no due items, no recipe
 abbrev pub noReport : ℕ → Report
@@ -164,6 +167,11 @@ isStirred (outcome.Refused n) some = false
 -- the store once the messages of a batch have gone, and those of lower eras where an era began
 abbrev pub keptBy : List ℕ → List Contrib → Bool → ℕ → List SignedKeyGenMsgOf → List SignedKeyGenMsgOf
 keptBy s ks restarted era st = cond restarted (fromEra era (withoutEntries (entriesIn s ks) st)) (withoutEntries (entriesIn s ks) st)
+
+-- 02, CR 1: the last report behind a batch: the one that it returned, with its own epoch and era; a refusal leaves the one before
+abbrev pub lastBy : BatchOutcome → ℕ → ℕ → ReportStamp → ReportStamp
+lastBy outcome.Reported epoch era l = record { given = true; epoch = epoch; era = era }
+lastBy (outcome.Refused n) epoch era l = l
 
 -- the whole answer
 abbrev pub heldReport : Processed → Report

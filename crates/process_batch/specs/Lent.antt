@@ -31,8 +31,9 @@ abbrev pub duePlaces : Lists → ℕ
 duePlaces l = shorter (shorter (length (l .due-kinds)) (length (l .due-indices))) (length (l .due-eras))
 
 -- the call that lent lists make
-abbrev pub lentCall : ℕ → List ℕ → List ℕ → Lists → BatchCall
-lentCall inner bytes verdicts l = record { inner = inner; bytes = bytes; verdicts = verdicts; fault-places = faultPlaces l; due-places = duePlaces l }
+abbrev pub lentCall : ℕ → ℕ → List ℕ → List ℕ → Lists → BatchCall
+lentCall era inner bytes verdicts l =
+    record { era = era; inner = inner; bytes = bytes; verdicts = verdicts; fault-places = faultPlaces l; due-places = duePlaces l }
 
 -- faults and due items of an answer; a refused call has none, so it writes nothing
 abbrev pub faultsIn : Outcome ReportOf → List Fault
@@ -51,7 +52,7 @@ Filled a l l′ =
 
 -- a batch call, whole: state and report, the very state beside a refusal, what each lent list holds at the end, and that faults are no more
 -- than their places
-abbrev pub BatchDone : DynamicHoneyBadger → ℕ → List ℕ → List ℕ → Lists → Processed → Lists → Type 0
-BatchDone s inner bytes verdicts l r l′ =
-    let x = processed base (stateOf s) (lentCall inner bytes verdicts l) in
+abbrev pub BatchDone : DynamicHoneyBadger → ℕ → ℕ → List ℕ → List ℕ → Lists → Processed → Lists → Type 0
+BatchDone s era inner bytes verdicts l r l′ =
+    let x = processed base (stateOf s) (lentCall era inner bytes verdicts l) in
     ProcessedAs r x × BatchRefusedKeeps r s × NoRecipeEmpty (r .«has_recipe») (r .recipe) × Filled (x .answer) l l′ × (r .faults ≤ base .faults)

@@ -1,9 +1,10 @@
--- A batch call cut in three: rows 1 to 6 with steps 2 to 5, steps 6 to 8 with row 7, and the store; each tied to the batch step's own definition.
+-- A batch call cut in three: all rows but 7 with steps 2 to 5, steps 6 to 8 with row 7, and the store; each tied to the batch step's own definition.
 use Prim.Native.Nat.{ℕ, _≤_}
 use mathlib.Core.Path.{_≡_}
 use mathlib.Core.List.{List, [], _++_, map}
 use mathlib.Core.Bool.{Bool, cond}
 use lib.ListN.{length}
+use Rattle.lists.specs.Lists.{Found}
 use Rattle.bincode.specs.Read.{value}
 use Rattle.bincode.specs.Sizes.{base}
 use Rattle.pub_key_map.specs.declared.Node.{Node}
@@ -21,7 +22,7 @@ use Rattle.vote_counter.specs.VoteCounter.{counterOf, withCommitted}
 use Rattle.message_store.specs.MessageStore.{fromEra}
 use Rattle.internal_contrib.specs.InternalContrib.{ContribOf, readBatch}
 use Rattle.internal_contrib.specs.Index.{contribsIn, placedFrom}
-use Rattle.dynamic_honey_badger.specs.State.{StateOf, eraOf, nodesIn}
+use Rattle.dynamic_honey_badger.specs.State.{StateOf, Stamp, eraOf, nodesIn}
 use Rattle.steps.specs.Steps.{WorkOf, committed}
 use Rattle.commit.specs.declared.Committed.{Committed}
 use Rattle.commit.specs.declared.tally.Tally.{Tally}
@@ -38,7 +39,7 @@ use Rattle.process_batch.specs.declared.Settled.{Settled}
 use Rattle.process_batch.specs.Answer.{summed, reportOf, asGiven, partBehind}
 use Rattle.process_batch.specs.Lent.{faultsIn, dueIn}
 
--- a batch of a state st that rows 1 to 6 let pass: its contributions, where they stand, and what the loop over them holds of their work
+-- a batch of a state st that all rows but 7 let pass: its contributions, where they stand, and what the loop over them holds of their work
 pub record Working (st : StateOf) (b : BatchCall) (epoch : ℕ) (w : Worked) (l l′ : Lists) : Type 0 where
   pub contribs : List ContribOf
   pub behind : ℕ
@@ -87,7 +88,7 @@ pub record RanAs (r : Settled) (p : Params) (c : VoteCounter) (k : KeyGenState) 
 -- steps 6 to 8 and row 7, for every work w that the loop over contributions may have held
 abbrev pub Concluded : List ℕ → Params → VoteCounter → KeyGenState → ℕ → Committed → Settled → Type 0
 Concluded bytes p c k epoch d r =
-    (w : WorkOf) (st : List SignedKeyGenMsgOf) → VotesHeld bytes (votesOf (c .committed)) w (c .era) (nodesOf (c .«pub_keys»)) (d .tally)
+    (w : WorkOf) (st : List SignedKeyGenMsgOf) (l : Found Stamp) → VotesHeld bytes (votesOf (c .committed)) w (c .era) (nodesOf (c .«pub_keys»)) (d .tally)
     → w .state .counter ≡ withCommitted (counterOf c) (w .state .counter .committed) → w .state .params ≡ p → w .state .key-gen ≡ running.stateOf (d .state)
     → length (w .faults) ≡ d .faults → length (w .due) ≡ d .due
-    → RanAs r p c k st (w .state .store) (w .faults) (w .due) (cond (emptyWins (w .state)) (denied (partsOf p c k st) 7) (finished base (partsOf p c k st) epoch w))
+    → RanAs r p c k st (w .state .store) (w .faults) (w .due) (cond (emptyWins (w .state)) (denied (partsOf p c k st l) 7) (finished base (partsOf p c k st l) epoch w))

@@ -12,7 +12,7 @@ ghost use Rattle.message_store.specs.MessageStore.{storeOf};
 ghost use Rattle.internal_contrib.specs.Index.{contribsIn};
 ghost use Rattle.decision.specs.Decision.{electedOf, isEmptyMap};
 ghost use Rattle.process_output.specs.Opening.{callOf};
-ghost use Rattle.process_batch.specs.Answer.{deniedTold, nothingDecided, quietTold, EpochFits, IsEpoch, QuietBy, asGiven, settledBy, dueCount, epochOf, keptBy, isStirred};
+ghost use Rattle.process_batch.specs.Answer.{deniedTold, nothingDecided, quietTold, EpochFits, IsEpoch, QuietBy, asGiven, settledBy, dueCount, epochOf, keptBy, isStirred, lastBy};
 ghost use Rattle.process_batch.specs.Worked.{WorkedAs, Concluded};
 ghost use Rattle.process_batch.specs.Lent.{BatchDone};
 use crate::copying::copy_ids;
@@ -26,6 +26,7 @@ use decision::Decision;
 use decision::Elected;
 use due::DueList;
 use dynamic_honey_badger::DynamicHoneyBadger;
+use dynamic_honey_badger::ReportStamp;
 use fault_log::FaultLog;
 use internal_contrib::BatchIndex;
 use key_gen_state::KeyGenState;
@@ -53,7 +54,7 @@ pub struct Report {
     pub recipe: Recipe,
 }
 
-// Rows 1 to 6 and steps 2 to 5: the batch's epoch or the refusal met first, where its contributions stand, and what they came to.
+// All rows but 7, and steps 2 to 5: the batch's epoch or the refusal met first, where its contributions stand, and what they came to.
 pub struct Worked {
     pub opening: Opening,
     pub index: BatchIndex,
@@ -268,7 +269,7 @@ fn settle(
     with_report(d, counter.era, epoch, c)
 }
 
-// The epoch of a batch that is not refused by rows 1 to 6.
+// The epoch of a batch that no row but 7 refuses.
 fn epoch_of(opening: Opening) -> u64
     ensures { λ r. ⌜ r ≡ epochOf opening ⌝ }
 {
@@ -278,12 +279,13 @@ fn epoch_of(opening: Opening) -> u64
     }
 }
 
-// Rows 1 to 6, then steps 2 to 5; a refused batch has no contribution noted.
+// All rows but 7, then steps 2 to 5; a refused batch has no contribution noted.
 fn work(
     era: u64,
     map: PubKeyMap,
     tally: Tally,
     state: KeyGenState,
+    batch_era: u64,
     inner: u64,
     batch: &[u8],
     verdicts: &[u8],
@@ -293,7 +295,7 @@ fn work(
     kinds: &mut [u8],
     indices: &mut [u64],
 ) -> Worked
-    ensures { λ r. ⌜ WorkedAs (callOf inner (now (batch .entry)) (now (verdicts .entry)) «fault_places» «due_places») era (nodesOf map) tally state r
+    ensures { λ r. ⌜ WorkedAs (callOf «batch_era» inner (now (batch .entry)) (now (verdicts .entry)) «fault_places» «due_places») era (nodesOf map) tally state r
         (record { ids = now (ids .entry); kinds = now (kinds .entry); indices = now (indices .entry) })
         (record { ids = now (ids .exit); kinds = now (kinds .exit); indices = now (indices .exit) })
         × EpochFits (r .opening) × (r .committed .faults ≤ base .faults) × (r .committed .due ≤ base .due) ⌝ }
@@ -302,6 +304,7 @@ fn work(
         era,
         map,
         state,
+        batch_era,
         inner,
         batch,
         verdicts,
@@ -358,9 +361,24 @@ fn kept(
     left
 }
 
-// A batch. Row 1 where a lent list is shorter than its size.
+// The last report behind a batch: the one that it returned; a refusal leaves the one before.
+fn last_after(last: ReportStamp, outcome: BatchOutcome, epoch: u64, era: u64) -> ReportStamp
+    ensures { λ r. ⌜ r ≡ lastBy outcome epoch era last ⌝ }
+{
+    match outcome {
+        BatchOutcome::Reported => ReportStamp {
+            given: true,
+            epoch,
+            era,
+        },
+        BatchOutcome::Refused(_) => last,
+    }
+}
+
+// A batch, with the era in which it was agreed and its inner epoch there. Row 1 where a lent list is shorter than its size.
 pub fn process_batch(
     mut state: DynamicHoneyBadger,
+    batch_era: u64,
     inner: u64,
     batch: &[u8],
     verdicts: &[u8],
@@ -370,7 +388,7 @@ pub fn process_batch(
     due_indices: &mut [u64],
     due_eras: &mut [u64],
 ) -> Processed
-    ensures { λ r. ⌜ BatchDone state inner (now (batch .entry)) (now (verdicts .entry))
+    ensures { λ r. ⌜ BatchDone state «batch_era» inner (now (batch .entry)) (now (verdicts .entry))
         (record {
           fault-ids = now («fault_ids» .entry);
           fault-kinds = now («fault_kinds» .entry);
@@ -406,6 +424,7 @@ pub fn process_batch(
         map,
         Tally::of(committed),
         before,
+        batch_era,
         inner,
         batch,
         verdicts,
@@ -455,6 +474,8 @@ pub fn process_batch(
     let outcome = report.outcome;
     let b = report.batch;
     let recipe = report.recipe;
+    let last = state.last;
+    state.last = last_after(last, outcome, b.epoch, b.era);
     Processed {
         state,
         outcome,

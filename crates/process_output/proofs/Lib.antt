@@ -1,3 +1,4 @@
 pub mod SomeLaws
 pub mod OpeningLaws
 pub mod PageLaws
+pub mod CallLaws

@@ -1,4 +1,4 @@
--- Laws of rows 1 to 6: test by test in their order, and what the batch call is after them.
+-- Laws of rows 1 to 4, 15, 5 and 6: test by test in their order, and what the batch call is after them.
 -- Assumes nothing.
 use borrow.Author.Tests.{eq-eqb, ne-eqb, lt-ltb, le-ltb, ltb-false}
 use Prim.Native.Nat.{ℕ, _+_, _^_, _≤_, _<_}
@@ -6,7 +6,7 @@ use mathlib.Core.Path.{_≡_, refl, sym, ap, _∙_, subst}
 use mathlib.Core.List.{List, [], _∷_}
 use mathlib.Core.Bool.{Bool, true, false, not, cond, _&&_, _||_}
 use native.Mathlib.Omega.{arith}
-use lib.Dec.{ltb, lit<}
+use lib.Dec.{ltb, eqb, lit<}
 use lib.ListN.{length, drop}
 use Rattle.lists.specs.Lists.{Found, nothing}
 use Rattle.lists.proofs.ListLaws.{cond-yes, cond-no, rest-none}
@@ -24,7 +24,7 @@ use Rattle.internal_contrib.proofs.KeptLaws.{batch-kept}
 use Rattle.dynamic_honey_badger.specs.Asked.{row5, epochIn}
 use Rattle.dynamic_honey_badger.specs.State.{StateOf, eraOf, nodesIn, validUnder, candidateNodes}
 use Rattle.steps.specs.Steps.{committed}
-use Rattle.process_output.specs.Refusals.{some, noVerdict, isOutside, isStray, batchRow1, batchRow4, batchRow6, batchRow7}
+use Rattle.process_output.specs.Refusals.{some, noVerdict, isOutside, isStray, batchRow1, batchRow4, batchRow15, batchRow6, batchRow7}
 use Rattle.process_output.specs.Process.{BatchCall, ProcessedOf, denied, finished, processedContribs, processedRead, processed}
 use Rattle.process_output.specs.declared.Opening.the-variants as opening
 use Rattle.process_output.specs.declared.Opened.{Opened}
@@ -85,39 +85,41 @@ module _ (era inner : ℕ) where
       go true q = absurd (never (sym (ap (λ (x : Bool). cond x (refused 5) (done (era + inner))) q) ∙ e))
       go false q = (q, same (sym (ap (λ (x : Bool). cond x (refused 5) (done (era + inner))) q) ∙ e))
 
--- rows 4 to 6 of a batch that was read
+-- rows 4, 15, 5 and 6 of a batch that was read
 module _ (era : ℕ) (ns : List Node) (candidate : Found (List Node)) (b : BatchCall) (cs : List ContribOf) where
-  -- 4: the count of verdicts
-  pub open-count : (length (b .verdicts) ≡ messageCount cs → ⊥) → openedContribs era ns candidate b cs ≡ refused 4
-  unfolding openedContribs batchRow4
-  open-count h = cond-yes _ _ (ap (λ (x : Bool). not x || some noVerdict (b .verdicts)) (ne-eqb _ _ h))
+  -- 4: the verdicts
+  pub open-verdicts : batchRow4 cs (b .verdicts) ≡ true → openedContribs era ns candidate b cs ≡ refused 4
+  unfolding openedContribs
+  open-verdicts h = cond-yes _ _ h
 
-  module _ (counted : length (b .verdicts) ≡ messageCount cs) where
-    -- 4: a verdict's byte
-    pub open-verdict : some noVerdict (b .verdicts) ≡ true → openedContribs era ns candidate b cs ≡ refused 4
-    unfolding openedContribs batchRow4
-    open-verdict h = cond-yes _ _ (λ j. not (eq-eqb (length (b .verdicts)) (messageCount cs) counted j) || h j)
+  module _ (judged : batchRow4 cs (b .verdicts) ≡ false) where
+    -- 15: the batch's era
+    pub open-era : batchRow15 era (b .era) ≡ true → openedContribs era ns candidate b cs ≡ refused 15
+    unfolding openedContribs
+    open-era h = cond-no _ _ judged ∙ cond-yes _ _ h
 
-    module _ (bytes : some noVerdict (b .verdicts) ≡ false) where
-      past-four : batchRow4 cs (b .verdicts) ≡ false
-      unfolding batchRow4
-      past-four = λ j. not (eq-eqb (length (b .verdicts)) (messageCount cs) counted j) || bytes j
-
+    module _ (own : batchRow15 era (b .era) ≡ false) where
       -- 5: the epoch
       pub open-epoch : row5 (era + b .inner) ≡ true → openedContribs era ns candidate b cs ≡ refused 5
       unfolding openedContribs
-      open-epoch h = cond-no _ _ past-four ∙ cond-yes _ _ h
+      open-epoch h = cond-no _ _ judged ∙ cond-no _ _ own ∙ cond-yes _ _ h
 
       module _ (early : row5 (era + b .inner) ≡ false) where
         -- 6: a stray message
         pub open-stray : some (strayAmong era ns candidate) cs ≡ true → openedContribs era ns candidate b cs ≡ refused 6
         unfolding openedContribs
-        open-stray h = cond-no _ _ past-four ∙ cond-no _ _ early ∙ cond-yes _ _ h
+        open-stray h = cond-no _ _ judged ∙ cond-no _ _ own ∙ cond-no _ _ early ∙ cond-yes _ _ h
 
         -- none of them
         pub open-done : some (strayAmong era ns candidate) cs ≡ false → openedContribs era ns candidate b cs ≡ done (era + b .inner)
         unfolding openedContribs
-        open-done h = cond-no _ _ past-four ∙ cond-no _ _ early ∙ cond-no _ _ h
+        open-done h = cond-no _ _ judged ∙ cond-no _ _ own ∙ cond-no _ _ early ∙ cond-no _ _ h
+
+-- row 4 by the number of key messages that was counted
+pub verdicts-row : (cs : List ContribOf) (verdicts : List ℕ) (messages : ℕ) → messages ≡ messageCount cs
+    → not (eqb (length verdicts) messages) || some noVerdict verdicts ≡ batchRow4 cs verdicts
+unfolding batchRow4
+verdicts-row cs verdicts messages e = ap (λ (n : ℕ). not (eqb (length verdicts) n) || some noVerdict verdicts) e
 
 -- rows 1 to 3
 module _ (z : Sizes) (era : ℕ) (ns : List Node) (candidate : Found (List Node)) (b : BatchCall) where
@@ -155,18 +157,20 @@ module _ (z : Sizes) (era : ℕ) (ns : List Node) (candidate : Found (List Node)
       same : {y : ℕ} → _≡_ {A = Outcome ℕ} (done y) (done epoch) → epoch ≡ y
       same q = cc
 
-      rows : (r4 r5 r6 : Bool) → cond r4 (refused 4) (cond r5 (refused 5) (cond r6 (refused 6) (done (era + b .inner)))) ≡ done epoch → (r5 ≡ false) × (epoch ≡ era + b .inner)
-      rows true r5 r6 q = absurd (never q)
-      rows false true r6 q = absurd (never q)
-      rows false false true q = absurd (never q)
-      rows false false false q = (refl, same q)
+      rows : (r4 r15 r5 r6 : Bool) → cond r4 (refused 4) (cond r15 (refused 15) (cond r5 (refused 5) (cond r6 (refused 6) (done (era + b .inner))))) ≡ done epoch
+          → (r5 ≡ false) × (epoch ≡ era + b .inner)
+      rows true r15 r5 r6 q = absurd (never q)
+      rows false true r5 r6 q = absurd (never q)
+      rows false false true r6 q = absurd (never q)
+      rows false false false true q = absurd (never q)
+      rows false false false false q = (refl, same q)
 
       by-row : (r1 : Bool) (x : Read (List ContribOf)) → readBatch z (b .bytes) ≡ x → cond r1 (refused 1) (openedRead era ns candidate b x) ≡ done epoch
           → (cs : List ContribOf) × (c : ℕ) × (readBatch z (b .bytes) ≡ value cs c) × (row5 (era + b .inner) ≡ false) × (epoch ≡ era + b .inner)
       by-row true x e q = absurd (never q)
       by-row false (refuse n) e q = absurd (never q)
       by-row false (value cs c) e q =
-          let p = rows (batchRow4 cs (b .verdicts)) (row5 (era + b .inner)) (some (strayAmong era ns candidate) cs) q in
+          let p = rows (batchRow4 cs (b .verdicts)) (batchRow15 era (b .era)) (row5 (era + b .inner)) (some (strayAmong era ns candidate) cs) q in
           (cs, c, e, p .0, p .1)
 
 -- row 5 leaves room for the era behind the epoch
@@ -174,7 +178,7 @@ pub epoch-fits : (epoch : ℕ) → row5 epoch ≡ false → epoch + 1 < 2 ^ 64
 unfolding row5
 epoch-fits epoch e = omega (arith, ltb-false 18446744073709551614 epoch e)
 
--- the batch call behind rows 1 to 6
+-- the batch call behind rows 1 to 4, 15, 5 and 6
 module _ (z : Sizes) (s : StateOf) (b : BatchCall) where
   -- row 7, and the steps
   abbrev pub afterOpening : Read (List ContribOf) → Outcome ℕ → ProcessedOf
@@ -186,19 +190,21 @@ module _ (z : Sizes) (s : StateOf) (b : BatchCall) where
   unfolding processed opened processedContribs openedContribs batchRow6
   processed-opened = by-row (batchRow1 z (b .fault-places) (b .due-places)) (readBatch z (b .bytes))
     where
-      rows : (cs : List ContribOf) (c : ℕ) (r4 r5 r6 : Bool)
-          → cond r4 (denied s 4) (cond r5 (denied s 5) (cond r6 (denied s 6) (cond (batchRow7 z s (b .verdicts) cs) (denied s 7) (finished z s (eraOf s + b .inner) (committed z s (b .verdicts) cs)))))
-          ≡ afterOpening (value cs c) (cond r4 (refused 4) (cond r5 (refused 5) (cond r6 (refused 6) (done (eraOf s + b .inner)))))
-      rows cs c true r5 r6 = refl
-      rows cs c false true r6 = refl
-      rows cs c false false true = refl
-      rows cs c false false false = refl
+      rows : (cs : List ContribOf) (c : ℕ) (r4 r15 r5 r6 : Bool)
+          → cond r4 (denied s 4) (cond r15 (denied s 15) (cond r5 (denied s 5) (cond r6 (denied s 6)
+          (cond (batchRow7 z s (b .verdicts) cs) (denied s 7) (finished z s (eraOf s + b .inner) (committed z s (b .verdicts) cs))))))
+          ≡ afterOpening (value cs c) (cond r4 (refused 4) (cond r15 (refused 15) (cond r5 (refused 5) (cond r6 (refused 6) (done (eraOf s + b .inner))))))
+      rows cs c true r15 r5 r6 = refl
+      rows cs c false true r5 r6 = refl
+      rows cs c false false true r6 = refl
+      rows cs c false false false true = refl
+      rows cs c false false false false = refl
 
       by-row : (r1 : Bool) (x : Read (List ContribOf))
           → cond r1 (denied s 1) (processedRead z s b x) ≡ afterOpening x (cond r1 (refused 1) (openedRead (eraOf s) (nodesIn s) (candidateNodes (s .key-gen)) b x))
       by-row true (value cs c) = refl
       by-row true (refuse n) = refl
-      by-row false (value cs c) = rows cs c (batchRow4 cs (b .verdicts)) (row5 (eraOf s + b .inner)) (batchRow6 s cs)
+      by-row false (value cs c) = rows cs c (batchRow4 cs (b .verdicts)) (batchRow15 (eraOf s) (b .era)) (row5 (eraOf s + b .inner)) (batchRow6 s cs)
       by-row false (refuse n) = refl
 
 -- for the caller, by what was opened: `processed` is a refusal's, or row 7 and the steps

@@ -1,4 +1,4 @@
--- 01, "When the engine says no": the rows of a batch call, each on the call's inputs and the state before it.
+-- 01, "When the engine says no", and 02: the rows of a batch call, each on the call's inputs and the state before it.
 use Prim.Native.Nat.{ℕ}
 use mathlib.Core.List.{List, [], _∷_}
 use mathlib.Core.Bool.{Bool, false, not, _&&_, _||_}
@@ -31,6 +31,10 @@ noVerdict v = ltb 3 v
 
 unfoldable pub batchRow4 : List ContribOf → List ℕ → Bool
 batchRow4 cs verdicts = not (eqb (length verdicts) (messageCount cs)) || some noVerdict verdicts
+
+-- 15 (02, CR 1): the batch is of another era than the engine's, an earlier or a later one
+unfoldable pub batchRow15 : ℕ → ℕ → Bool
+batchRow15 now era = not (eqb era now)
 
 -- 6: a key message of right era and signature, whatever its verdict, key generation running, signer not in the candidate map. Nothing before step 6 changes era
 -- or maps, so the state before the batch decides.

@@ -1,7 +1,10 @@
-// dynamic_honey_badger.rs, `process_output`, before its loop: rows 1 to 6. One pass reads the batch, refuses, and notes where its contributions stand.
+// dynamic_honey_badger.rs, `process_output`, before its loop: rows 1 to 4, 15, 5 and 6. One pass reads the batch, refuses, and notes where its contributions stand.
 ghost use mathlib.Core.Path.{_≡_};
 ghost use mathlib.Core.List.{List, []};
-ghost use Prim.Native.Nat.{ℕ};
+ghost use Prim.Native.Nat.{ℕ, _+_};
+ghost use mathlib.Core.Bool.{not, _||_};
+ghost use lib.Dec.{eqb};
+ghost use lib.ListN.{length};
 ghost use Rattle.lists.specs.Lists.{found};
 ghost use Rattle.bincode.specs.Read.{value};
 ghost use Rattle.bincode.specs.Items.{many};
@@ -13,8 +16,9 @@ ghost use Rattle.key_gen_state.specs.KeyGenState as running;
 ghost use Rattle.internal_contrib.specs.InternalContrib.{readBatch};
 ghost use Rattle.internal_contrib.specs.Index.{contribsIn};
 ghost use Rattle.dynamic_honey_badger.specs.State.{candidateNodes};
+ghost use Rattle.dynamic_honey_badger.specs.Asked.{row5};
 ghost use Rattle.process_output.specs.declared.Opening.the-variants as opening;
-ghost use Rattle.process_output.specs.Refusals.{some, noVerdict, isStray};
+ghost use Rattle.process_output.specs.Refusals.{some, noVerdict, batchRow15, isStray};
 ghost use Rattle.process_output.specs.Opening.{opened, OpenedAs, OpenedBy, StrayIn, callOf};
 use bincode::Step;
 use due::DueList;
@@ -49,6 +53,33 @@ fn has_bad_verdict(verdicts: &[u8]) -> bool
         }
         i += 1;
     }
+    false
+}
+
+// Row 4: not as many verdicts as key messages, or a byte over 3.
+fn is_ill_formed(verdicts: &[u8], messages: u64) -> bool
+    ensures { λ r. ⌜ r ≡ not (eqb (length (now (verdicts .entry))) messages) || some noVerdict (now (verdicts .entry)) ⌝ }
+{
+    if verdicts.len() as u64 != messages {
+        return true;
+    }
+    has_bad_verdict(verdicts)
+}
+
+// Row 15: the batch is of another era than the engine's.
+fn is_other_era(batch_era: u64, era: u64) -> bool
+    ensures { λ r. ⌜ r ≡ batchRow15 era «batch_era» ⌝ }
+{
+    batch_era != era
+}
+
+// Row 5: the batch's epoch would be over 2^64-2.
+fn is_late(era: u64, inner: u64) -> bool
+    ensures { λ r. ⌜ r ≡ row5 (era + inner) ⌝ }
+{
+    let NextEpoch::Epoch(_) = dynamic_honey_badger::epoch_in(era, inner) else {
+        return true;
+    };
     false
 }
 
@@ -130,42 +161,47 @@ fn refused(n: u8, mut index: BatchIndex) -> Opened
     }
 }
 
-// Rows 4 to 6 of a batch that can be read.
+// Rows 4, 15, 5 and 6 of a batch that can be read.
 fn open_read(
     era: u64,
     map: PubKeyMap,
     state: KeyGenState,
+    batch_era: u64,
     inner: u64,
     batch: &[u8],
     verdicts: &[u8],
     messages: u64,
     index: BatchIndex,
 ) -> Opened
-    ensures { λ r. ⌜ OpenedBy r era (nodesOf map) (candidateNodes (running.stateOf state)) inner (now (batch .entry)) (now (verdicts .entry)) messages index ⌝ }
+    ensures { λ r. ⌜ OpenedBy r era (nodesOf map) (candidateNodes (running.stateOf state)) «batch_era» inner (now (batch .entry)) (now (verdicts .entry)) messages index ⌝ }
 {
-    if verdicts.len() as u64 != messages {
+    let ill_formed = is_ill_formed(verdicts, messages);
+    let other_era = is_other_era(batch_era, era);
+    let late = is_late(era, inner);
+    if ill_formed {
         return refused(4, index);
     }
-    if has_bad_verdict(verdicts) {
-        return refused(4, index);
+    if other_era {
+        return refused(15, index);
     }
-    let NextEpoch::Epoch(epoch) = dynamic_honey_badger::epoch_in(era, inner) else {
+    if late {
         return refused(5, index);
-    };
+    }
     if strays(batch, index, era, map, state) {
         return refused(6, index);
     }
     Opened {
-        opening: Opening::Epoch(epoch),
+        opening: Opening::Epoch(era + inner),
         index,
     }
 }
 
-// Row 1 for lists shorter than 01 lends them; 2 and 3 of the bytes; then verdicts, epoch and stray messages.
+// Row 1 for lists shorter than 01 lends them; 2 and 3 of the bytes; then verdicts, the batch's era, its epoch and stray messages.
 pub fn open_batch(
     era: u64,
     map: PubKeyMap,
     state: KeyGenState,
+    batch_era: u64,
     inner: u64,
     batch: &[u8],
     verdicts: &[u8],
@@ -173,7 +209,7 @@ pub fn open_batch(
     due_places: usize,
 ) -> Opened
     ensures { λ r. ⌜ OpenedAs r
-        (opened base era (nodesOf map) (candidateNodes (running.stateOf state)) (callOf inner (now (batch .entry)) (now (verdicts .entry)) «fault_places» «due_places»))
+        (opened base era (nodesOf map) (candidateNodes (running.stateOf state)) (callOf «batch_era» inner (now (batch .entry)) (now (verdicts .entry)) «fault_places» «due_places»))
         (readBatch base (now (batch .entry))) ⌝ }
 {
     let r = internal_contrib::index_batch(batch);
@@ -191,6 +227,7 @@ pub fn open_batch(
             era,
             map,
             state,
+            batch_era,
             inner,
             batch,
             verdicts,

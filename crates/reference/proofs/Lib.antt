@@ -2,6 +2,7 @@ pub mod WinnerLaws
 pub mod VoteLaws
 pub mod MessageLaws
 pub mod PartLaws
+pub mod PassedLaws
 pub mod OrderLaws
 pub mod ReadyLaws
 pub mod StrayLaws

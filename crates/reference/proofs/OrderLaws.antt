@@ -1,7 +1,7 @@
 -- Step 2, and the list of shared batches: in which order votes, messages, contributions and batches are taken.
 -- Assumes nothing.
 use Prim.Native.Nat.{ℕ}
-use mathlib.Core.Path.{_≡_, refl}
+use mathlib.Core.Path.{_≡_, refl, ap, _∙_}
 use mathlib.Core.List.{List, [], _∷_, _++_}
 use Rattle.bincode.specs.Items.{foldl}
 use Rattle.bincode.specs.Sizes.{Sizes}
@@ -9,7 +9,8 @@ use Rattle.votes.specs.Votes.{SignedVoteOf}
 use Rattle.key_gen_message.specs.KeyGenMessage.{SignedKeyGenMsgOf}
 use Rattle.internal_contrib.specs.InternalContrib.{ContribOf}
 use Rattle.reference.specs.Reference.{RefState}
-use Rattle.reference.specs.Step.{RefWork, refVote, refMessage, refContrib, refContribs, SharedBatch, refStep, refRun, refAnswers}
+use Rattle.reference.specs.Step.{RefWork, refVote, refMessage, refContrib, refContribs, SharedBatch, passesOver, refStep, unlessPassed, refAfter, refRun, refAnswers, refTaken}
+use Rattle.reference.proofs.PassedLaws.{own-era, own-after, unless-more}
 
 -- "Per contribution ..: the votes, then the key messages, though messages are encoded first." Each is the contribution's proposer's.
 module _ (z : Sizes) (w : RefWork) (proposer : ℕ) (user : List ℕ) where
@@ -45,22 +46,37 @@ module _ (z : Sizes) (s : RefState) where
   unfolding refContribs
   next-contribution cs c = fold-last (refContrib z) (record { state = s; faults = [] }) cs c
 
--- "The book is fed the start .. and those batches": none leaves it at the start, and each batch meets the state that those before it left, and is answered there
+-- "The book is fed the start .. and those batches": none leaves it at the start, and each batch of the era that those before it left meets the state that they left,
+-- and is answered there
 module _ (z : Sizes) where
   pub no-batch : (s : RefState) → refRun z s [] ≡ s
   unfolding refRun
   no-batch s = refl
 
-  pub next-batch : (s : RefState) (bs : List SharedBatch) (b : SharedBatch) → refRun z s (bs ++ (b ∷ [])) ≡ refStep z (refRun z s bs) b .state
+  pub next-batch : (s : RefState) (bs : List SharedBatch) (b : SharedBatch) → b .era ≡ refRun z s bs .era → refRun z s (bs ++ (b ∷ [])) ≡ refStep z (refRun z s bs) b .state
   unfolding refRun
-  next-batch s [] b = refl
-  next-batch s (a ∷ bs) b = next-batch (refStep z s a .state) bs b
+  next-batch s [] b e = own-after z s b e
+  next-batch s (a ∷ bs) b e = next-batch (refAfter z s a) bs b e
 
   pub no-answer : (s : RefState) → refAnswers z s [] ≡ []
   unfolding refAnswers
   no-answer s = refl
 
-  pub next-answer : (s : RefState) (bs : List SharedBatch) (b : SharedBatch) → refAnswers z s (bs ++ (b ∷ [])) ≡ refAnswers z s bs ++ (refStep z (refRun z s bs) b .answer ∷ [])
+  pub next-answer : (s : RefState) (bs : List SharedBatch) (b : SharedBatch) → b .era ≡ refRun z s bs .era
+      → refAnswers z s (bs ++ (b ∷ [])) ≡ refAnswers z s bs ++ (refStep z (refRun z s bs) b .answer ∷ [])
   unfolding refRun refAnswers
-  next-answer s [] b = refl
-  next-answer s (a ∷ bs) b = rw (next-answer (refStep z s a .state) bs b)
+  next-answer s [] b e = rw (own-era s b e)
+  next-answer s (a ∷ bs) b e =
+      ap (unlessPassed (passesOver s a) (refStep z s a .answer)) (next-answer (refAfter z s a) bs b e)
+      ∙ unless-more (passesOver s a) (refStep z s a .answer) (refAnswers z (refAfter z s a) bs) (refStep z (refRun z (refAfter z s a) bs) b .answer ∷ [])
+
+  -- 02, CR 1: and of a list are taken those that are answered
+  pub none-taken : (s : RefState) → refTaken z s [] ≡ []
+  unfolding refTaken
+  none-taken s = refl
+
+  pub next-taken : (s : RefState) (bs : List SharedBatch) (b : SharedBatch) → b .era ≡ refRun z s bs .era → refTaken z s (bs ++ (b ∷ [])) ≡ refTaken z s bs ++ (b ∷ [])
+  unfolding refRun refTaken
+  next-taken s [] b e = rw (own-era s b e)
+  next-taken s (a ∷ bs) b e =
+      ap (unlessPassed (passesOver s a) a) (next-taken (refAfter z s a) bs b e) ∙ unless-more (passesOver s a) a (refTaken z (refAfter z s a) bs) (b ∷ [])

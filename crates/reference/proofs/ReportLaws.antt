@@ -39,20 +39,21 @@ module _ (z : Sizes) (s : RefState) (b : SharedBatch) where
   reading-hands-on cs at e = rw e
 
 module _ (z : Sizes) (s : RefState) (inner : ℕ) (cs : List ContribOf) where
-  -- refused and unchanged, or the steps
-  tests : (P : RefAnswer → Type 0) → ((n : ℕ) → P (record { state = s; answer = refused n })) → P (refSteps z s (s .era + inner) cs) → P (refBatch z s inner cs)
+  -- refused and unchanged, or the steps, where row 5 does not hold: said once for every law of a batch that was read
+  pub tests : (P : RefAnswer → Type 0) → ((n : ℕ) → P (record { state = s; answer = refused n }))
+      → (refRow5 (s .era + inner) ≡ false → P (refSteps z s (s .era + inner) cs)) → P (refBatch z s inner cs)
   unfolding refBatch
-  tests P denied taken = go (refRow5 (s .era + inner)) (refRow6 s cs) (refRow7 z s cs)
+  tests P denied taken = go (refRow5 (s .era + inner)) refl (refRow6 s cs) (refRow7 z s cs)
     where
-      go : (a b c : Bool) → P (cond a (deniedRef s 5) (cond b (deniedRef s 6) (cond c (deniedRef s 7) (refSteps z s (s .era + inner) cs))))
-      go true b c = denied 5
-      go false true c = denied 6
-      go false false true = denied 7
-      go false false false = taken
+      go : (a : Bool) → refRow5 (s .era + inner) ≡ a → (b c : Bool) → P (cond a (deniedRef s 5) (cond b (deniedRef s 6) (cond c (deniedRef s 7) (refSteps z s (s .era + inner) cs))))
+      go true e b c = denied 5
+      go false e true c = denied 6
+      go false e false true = denied 7
+      go false e false false = taken e
 
   pub batch-refused : (n : ℕ) → refBatch z s inner cs .answer ≡ refused n → refBatch z s inner cs .state ≡ s
   unfolding refSteps
-  batch-refused n = tests (λ a. a .answer ≡ refused n → a .state ≡ s) (λ k e. refl) (λ e. absurd (let q : _≡_ {A = ℕ} 0 1 = cc in let w : ⊥ = omega arith in w))
+  batch-refused n = tests (λ a. a .answer ≡ refused n → a .state ≡ s) (λ k e. refl) (λ h e. absurd (let q : _≡_ {A = ℕ} 0 1 = cc in let w : ⊥ = omega arith in w))
 
   -- "The report is epoch, era of the batch, change, map and parameters": epoch = era + inner epoch (step 1), the era that it met, the map and the parameters that it left;
   -- beside it the faults in order of arising
@@ -65,7 +66,7 @@ module _ (z : Sizes) (s : RefState) (inner : ℕ) (cs : List ContribOf) where
       (λ a. a .answer ≡ done r
       → (r .batch .epoch ≡ s .era + inner) × (r .batch .era ≡ s .era) × (r .batch .keys ≡ a .state .nodes) × (r .batch .params ≡ a .state .params) × (r .faults ≡ refContribs z s cs .faults))
       (λ k e. absurd (let q : _≡_ {A = ℕ} 0 1 = cc in let w : ⊥ = omega arith in w))
-      (says _)
+      (λ h. says _)
     where
       says : (x : RefReport) → _≡_ {A = Outcome RefReport} (done x) (done r)
           → (r .batch .epoch ≡ x .batch .epoch) × (r .batch .era ≡ x .batch .era) × (r .batch .keys ≡ x .batch .keys) × (r .batch .params ≡ x .batch .params) × (r .faults ≡ x .faults)

@@ -258,19 +258,37 @@ abbrev pub refRead : Sizes → RefState → ℕ → Read (List ContribOf) → Re
 refRead z s inner (value cs c) = refBatch z s inner cs
 refRead z s inner (refuse n) = deniedRef s n
 
--- a shared batch: its inner epoch and its bytes
+-- a shared batch: the era in which it was agreed (02, CR 1), its inner epoch there, and its bytes
 pub record SharedBatch : Type 0 where
+  pub era : ℕ
   pub inner : ℕ
   pub bytes : List ℕ
 
+-- 02, CR 1: a batch of another era than its own is passed over: no answer, no change
+unfoldable pub passesOver : RefState → SharedBatch → Bool
+passesOver s b = not (eqb (b .era) (s .era))
+
+-- a batch of its own era
 unfoldable pub refStep : Sizes → RefState → SharedBatch → RefAnswer
 refStep z s b = refRead z s (b .inner) (readBatch z (b .bytes))
 
--- a list of shared batches: the state after them, and their answers in order
+-- a list of shared batches: the state after them, and the answers, in order, to those that are not passed over
+module _ {A : Type 0} where
+  abbrev pub unlessPassed : Bool → A → List A → List A
+  unlessPassed passed x xs = cond passed xs (x ∷ xs)
+
+abbrev pub refAfter : Sizes → RefState → SharedBatch → RefState
+refAfter z s b = cond (passesOver s b) s (refStep z s b .state)
+
 unfoldable pub refRun : Sizes → RefState → List SharedBatch → RefState
 refRun z s [] = s
-refRun z s (b ∷ bs) = refRun z (refStep z s b .state) bs
+refRun z s (b ∷ bs) = refRun z (refAfter z s b) bs
 
 unfoldable pub refAnswers : Sizes → RefState → List SharedBatch → List (Outcome RefReport)
 refAnswers z s [] = []
-refAnswers z s (b ∷ bs) = refStep z s b .answer ∷ refAnswers z (refStep z s b .state) bs
+refAnswers z s (b ∷ bs) = unlessPassed (passesOver s b) (refStep z s b .answer) (refAnswers z (refAfter z s b) bs)
+
+-- the batches of a list less those that are passed over
+unfoldable pub refTaken : Sizes → RefState → List SharedBatch → List SharedBatch
+refTaken z s [] = []
+refTaken z s (b ∷ bs) = unlessPassed (passesOver s b) b (refTaken z (refAfter z s b) bs)

@@ -1,17 +1,22 @@
--- Each entry refuses with 2 or 3 exactly where its inputs, in the order in which they are looked at, have a cause with that number. Row 1 comes before them.
+-- Each entry refuses with 2 or 3 exactly where its inputs, in the order in which they are looked at, have a cause with that number. Row 1 comes before them. A batch
+-- is refused with 15 exactly where no row before it holds and its era is not the engine's (02, CR 1).
 -- Assumes nothing.
 use Prim.Native.Nat.{ℕ, _^_, _≤_, _<_}
-use mathlib.Core.Path.{_≡_, refl, ap, _∙_}
-use mathlib.Core.Logic.{_↔_}
+use mathlib.Core.Path.{_≡_, refl, sym, ap, _∙_}
+use mathlib.Core.Logic.{_↔_, ⊎-elim}
 use mathlib.Core.List.{List}
-use mathlib.Core.Bool.{false}
-use lib.Dec.{lit<}
+use mathlib.Core.Bool.{false, _||_}
+use lib.Dec.{lit<, eqb}
+use borrow.Author.Tests.{eqb-false}
+use Rattle.lists.proofs.ListLaws.{false-true}
 use Rattle.lists.specs.Lists.{found, nothing}
 use Rattle.bincode.specs.Read.{Read, value, refuse, whole}
+use Rattle.bincode.specs.Outcome.{Outcome, done, refused}
 use Rattle.bincode.specs.Numbers.{fixed}
 use Rattle.bincode.specs.Sizes.{Sizes}
 use Rattle.bincode.specs.Stands.{Bytes}
-use Rattle.bincode.specs.Causes.{Short, Caused}
+use Rattle.bincode.specs.Causes.{Cause, Short, Caused}
+use Rattle.bincode.proofs.ReadLaws.{clash}
 use Rattle.bincode.proofs.CodeLaws.{fixed-codes}
 use Rattle.bincode.proofs.CauseLaws.{fixed-causes, whole-causes}
 use Rattle.pub_key_map.specs.PubKeyMap.{readMap}
@@ -34,11 +39,16 @@ use Rattle.internal_contrib.specs.InternalContrib.{ContribOf, readBatch}
 use Rattle.internal_contrib.specs.Places.{contributed}
 use Rattle.internal_contrib.specs.ContribCauses.{batchWrong}
 use Rattle.internal_contrib.proofs.ContribCauses.{batch-causes}
-use Rattle.dynamic_honey_badger.specs.State.{StateOf, started, joined}
+use Rattle.dynamic_honey_badger.specs.State.{StateOf, eraOf, started, joined}
 use Rattle.dynamic_honey_badger.specs.OwnVotes.{voteForBytes, voteToAdd}
 use Rattle.dynamic_honey_badger.specs.Received.{readDueItem, received, returned}
 use Rattle.process_output.specs.Refusals.{batchRow1}
-use Rattle.process_output.specs.Process.{BatchCall, processed}
+use Rattle.process_output.specs.Process.{BatchCall, ReportOf, processed}
+use Rattle.process_output.proofs.CallLaws.{Refusal, by-1, by-reading, by-4, by-15, by-5, by-6, by-7, number, batch-cases}
+use Rattle.agreement.specs.Shared.{isOwnRefusal}
+use Rattle.agreement.specs.Hypotheses.{FullBatch}
+use Rattle.agreement.proofs.CountLaws.{reading-refuses}
+use Rattle.agreement.proofs.FullLaws.{full-shared, shared-full}
 use Rattle.refusals.specs.Table.{refusalOf, refusalIn, startRows, joinRows, voteRows, addRows, messageRows, dueRows, batchRows}
 use Rattle.refusals.specs.Causes.{By, KeyWrong, ParamsWrong, MapWrong, ChangeWrong, PlanWrong, MessageWrong, DueItemWrong, StartWrong, JoinWrong}
 use Rattle.refusals.proofs.FirstRow.{never}
@@ -125,7 +135,7 @@ module _ (z : Sizes) (nodes-fit : z .nodes < 256 ^ 8) (n : ℕ) (low : n ≤ 3) 
           (passed-row n 1 (batchRow1 z (b .fault-places) (b .due-places)) h _
           (last-rows n
           (read-rows n _ (batch-causes z nodes-fit rows-fit user-fits (b .bytes)) bytes _
-          (higher-rows n low _ (lit< tt, (lit< tt, (lit< tt, (lit< tt, tt))))))))
+          (higher-rows n low _ (lit< tt, (lit< tt, (lit< tt, (lit< tt, (lit< tt, tt)))))))))
 
 -- the companion of the look-up refuses as a batch is refused, with every number
 module _ (z : Sizes) (nodes-fit : z .nodes < 256 ^ 8) (rows-fit : z .rows < 256 ^ 8) (user-fits : z .user < 256 ^ 8) where
@@ -138,3 +148,51 @@ module _ (z : Sizes) (nodes-fit : z .nodes < 256 ^ 8) (rows-fit : z .rows < 256 
       to : (x : Read (List ContribOf)) → readBatch z s ≡ x → refusalOf (contributed x id) ≡ found n → By n (batchWrong z s)
       to (value cs c) e p = absurd (never p)
       to (refuse m) e p = let q : m ≡ n = cc in k .cause b n (e ∙ ap refuse q)
+
+-- Row 15 of a batch by its cause. No row before it: the lent lists are of full length and the verdicts well formed (`FullBatch`: rows 1 and 4), and nothing is wrong
+-- with the bytes (rows 2 and 3).
+module _ (z : Sizes) (nodes-fit : z .nodes < 256 ^ 8) (rows-fit : z .rows < 256 ^ 8) (user-fits : z .user < 256 ^ 8) (s : StateOf) (b : BatchCall) (bytes : Bytes (b .bytes)) where
+  abbrev Nothing-wrong : Type 0
+  Nothing-wrong = (c : Cause) → batchWrong z (b .bytes) c → ⊥
+
+  k : Caused (b .bytes) (readBatch z (b .bytes)) (batchWrong z (b .bytes))
+  k = batch-causes z nodes-fit rows-fit user-fits (b .bytes)
+
+  -- 15 is neither 1 nor 4
+  not-own : (a : Outcome ReportOf) → refusalOf a ≡ found 15 → isOwnRefusal a ≡ false
+  not-own (done r) e = absurd (never e)
+  not-own (refused n) e = let q : n ≡ 15 = cc in ap (λ (i : ℕ). eqb i 1 || eqb i 4) q
+
+  other-number : (n : ℕ) → eqb n 15 ≡ false → found n ≡ found 15 → ⊥
+  other-number n e q = let p : n ≡ 15 = cc in eqb-false n 15 e p
+
+  era-cause : refusalOf (processed z s b .answer) ≡ found 15 → Nothing-wrong × (b .era ≡ eraOf s → ⊥)
+  era-cause = batch-cases z s b (λ p. refusalOf (p .answer) ≡ found 15 → Nothing-wrong × (b .era ≡ eraOf s → ⊥)) refusal (λ cs c t e. absurd (never e))
+    where
+      refusal : (w : Refusal z s b) → found (number z s b w) ≡ found 15 → Nothing-wrong × (b .era ≡ eraOf s → ⊥)
+      refusal (by-1 h) e = absurd (other-number 1 refl e)
+      refusal (by-reading n h p) e = absurd (other-number n (⊎-elim (λ q. ap (λ (i : ℕ). eqb i 15) q) (λ q. ap (λ (i : ℕ). eqb i 15) q) (reading-refuses z (b .bytes) n p)) e)
+      refusal (by-4 cs c r h) e = absurd (other-number 4 refl e)
+      refusal (by-15 cs c r h o) e = ((λ d w. clash (readBatch z (b .bytes)) (r .bytes-read) (k .refuses d w)), o)
+      refusal (by-5 cs c o h) e = absurd (other-number 5 refl e)
+      refusal (by-6 cs c o h5 h) e = absurd (other-number 6 refl e)
+      refusal (by-7 cs c o h5 h6 h) e = absurd (other-number 7 refl e)
+
+  era-answer : Nothing-wrong → (b .era ≡ eraOf s → ⊥) → isOwnRefusal (processed z s b .answer) ≡ false → refusalOf (processed z s b .answer) ≡ found 15
+  era-answer none other =
+      batch-cases z s b (λ p. isOwnRefusal (p .answer) ≡ false → refusalOf (p .answer) ≡ found 15) refusal (λ cs c t h. absurd (other (t .is-own .own-era)))
+    where
+      refusal : (w : Refusal z s b) → isOwnRefusal (refused (number z s b w)) ≡ false → found (number z s b w) ≡ found 15
+      refusal (by-1 e) h = absurd (false-true (sym h))
+      refusal (by-reading n e p) h = let w = k .cause bytes n p in absurd (none (w .0) (w .1))
+      refusal (by-4 cs c r e) h = absurd (false-true (sym h))
+      refusal (by-15 cs c r e o) h = refl
+      refusal (by-5 cs c o e) h = absurd (other (o .own-era))
+      refusal (by-6 cs c o h5 e) h = absurd (other (o .own-era))
+      refusal (by-7 cs c o h5 h6 e) h = absurd (other (o .own-era))
+
+  pub era-caused : (refusalOf (processed z s b .answer) ≡ found 15) ↔ (FullBatch z b × ((c : Cause) → batchWrong z (b .bytes) c → ⊥) × (b .era ≡ eraOf s → ⊥))
+  era-caused = (
+    (λ e. (shared-full z s b (not-own (processed z s b .answer) e), era-cause e .0, era-cause e .1)),
+    (λ h. era-answer (h .1) (h .2) (full-shared z s b (h .0))),
+  )

@@ -20,13 +20,11 @@ use Rattle.key_gen_message.specs.KeyGenMessage.{SignedKeyGenMsgOf}
 use Rattle.message.specs.Message.{MessageContent, keyGen, signedVote, readMessage}
 use Rattle.message_store.specs.MessageStore.{pushed}
 use Rattle.node_change.specs.NodeChange.{row13, withoutNode}
-use Rattle.internal_contrib.specs.InternalContrib.{ContribOf, readBatch}
-use Rattle.dynamic_honey_badger.specs.Asked.{row5}
 use Rattle.dynamic_honey_badger.specs.State.{StateOf, eraOf, nodesIn, isValidator, validSignature}
 use Rattle.dynamic_honey_badger.specs.OwnVotes.{VotedOf, signedIn, voteFor, voteForRead, voteForBytes, voteToAdd, voteToRemove}
 use Rattle.dynamic_honey_badger.specs.Received.{refusal, HandledOf, votedIn, storedIn, keyGenIn, receivedKeyGen, signedBy, messageEra, receivedNow, receivedContent, receivedRead, received, readDueItem, returnedKeyGen, returnedRead, returned}
-use Rattle.process_output.specs.Refusals.{batchRow1, batchRow4, batchRow6, batchRow7}
-use Rattle.process_output.specs.Process.{BatchCall, ProcessedOf, processedContribs, processedRead, processed}
+use Rattle.process_output.specs.Process.{BatchCall, ProcessedOf, processed}
+use Rattle.process_output.proofs.CallLaws.{batch-cases}
 use Rattle.refusals.specs.Table.{refusalOf, refusalIn}
 use Rattle.refusals.proofs.FirstRow.{never}
 use Rattle.refusals.proofs.Refused.{effectOf, pending-row}
@@ -116,13 +114,4 @@ module _ (z : Sizes) (s : StateOf) where
   BatchKept r = (n : ℕ) → r .answer ≡ refused n → r .state ≡ s
 
   pub batch-refused : (b : BatchCall) (n : ℕ) → processed z s b .answer ≡ refused n → processed z s b .state ≡ s
-  unfolding processed processedContribs
-  batch-refused b = either BatchKept (batchRow1 z (b .fault-places) (b .due-places)) (λ n e. refl) (go (readBatch z (b .bytes)))
-    where
-      go : (x : Read (List ContribOf)) → BatchKept (processedRead z s b x)
-      go (value cs c) =
-          either BatchKept (batchRow4 cs (b .verdicts)) (λ n e. refl)
-          (either BatchKept (row5 (eraOf s + b .inner)) (λ n e. refl)
-          (either BatchKept (batchRow6 s cs) (λ n e. refl)
-          (either BatchKept (batchRow7 z s (b .verdicts) cs) (λ n e. refl) (λ n e. absurd (never (ap refusalOf e))))))
-      go (refuse k) = λ n e. refl
+  batch-refused b = batch-cases z s b BatchKept (λ w n e. refl) (λ cs c t n e. absurd (never (ap refusalOf e)))

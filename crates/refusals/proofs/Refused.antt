@@ -33,7 +33,7 @@ use Rattle.dynamic_honey_badger.specs.Asked.{row5}
 use Rattle.dynamic_honey_badger.specs.State.{StateOf, eraOf, nodesIn, isValidator, validSignature, startedFrom, started, joinedFrom, joined}
 use Rattle.dynamic_honey_badger.specs.OwnVotes.{VotedOf, votedAs, signedIn, voteFor, voteForRead, voteForBytes, voteToAdd, voteToRemove}
 use Rattle.dynamic_honey_badger.specs.Received.{quiet, fault, refusal, HandledOf, handledAs, votedIn, storedIn, keyGenIn, receivedKeyGen, signedBy, receivedContent, receivedRead, received, readDueItem, returnedKeyGen, returnedRead, returned}
-use Rattle.process_output.specs.Refusals.{batchRow1, batchRow4, batchRow6, batchRow7}
+use Rattle.process_output.specs.Refusals.{batchRow1, batchRow4, batchRow15, batchRow6, batchRow7}
 use Rattle.process_output.specs.Process.{BatchCall, ProcessedOf, processedContribs, processedRead, processed}
 use Rattle.refusals.specs.Table.{row, firstRow, refusalOf, refusalIn, readsTo, ofRead, startRows, joinRows, isLast, row11, voteRows, addRows, removeRows, comesToStore, messageRow12, messageRows, dueRow12, dueRows, batchRows}
 use Rattle.refusals.proofs.FirstRow.{never}
@@ -241,10 +241,11 @@ module _ (z : Sizes) (s : StateOf) (b : BatchCall) where
       by-row reportedOf 1 (batchRow1 z (b .fault-places) (b .due-places)) _ _ _ refl
       (by-read (λ x. reportedOf (processedRead z s b x))
       (λ x.
-      row 4 (ofRead (λ (cs : List ContribOf). batchRow4 cs (b .verdicts)) x) ∷ row 5 (row5 (eraOf s + b .inner)) ∷ row 6 (ofRead (batchRow6 s) x)
-      ∷ row 7 (ofRead (batchRow7 z s (b .verdicts)) x) ∷ [])
+      row 4 (ofRead (λ (cs : List ContribOf). batchRow4 cs (b .verdicts)) x) ∷ row 15 (batchRow15 (eraOf s) (b .era)) ∷ row 5 (row5 (eraOf s + b .inner))
+      ∷ row 6 (ofRead (batchRow6 s) x) ∷ row 7 (ofRead (batchRow7 z s (b .verdicts)) x) ∷ [])
       (readBatch z (b .bytes)) (whole-batch (b .bytes) z) (λ n. refl) λ cs c u.
       by-row reportedOf 4 (batchRow4 cs (b .verdicts)) _ _ _ refl
+      (by-row reportedOf 15 (batchRow15 (eraOf s) (b .era)) _ _ _ refl
       (by-row reportedOf 5 (row5 (eraOf s + b .inner)) _ _ _ refl
       (by-row reportedOf 6 (batchRow6 s cs) _ _ _ refl
-      (by-row reportedOf 7 (batchRow7 z s (b .verdicts) cs) _ _ _ refl no-row))))
+      (by-row reportedOf 7 (batchRow7 z s (b .verdicts) cs) _ _ _ refl no-row)))))

@@ -27,7 +27,7 @@ use Rattle.key_gen.specs.KeyGen.{nodeCount}
 use Rattle.key_gen_state.specs.KeyGenState.{KeyGenStateOf, countMessages}
 use Rattle.dynamic_honey_badger.specs.State.{StateOf, eraOf, nodesIn, isValidator, validSignature}
 use Rattle.dynamic_honey_badger.specs.Received.{MessageEffect, quiet, fault, refusal, readDueItem}
-use Rattle.process_output.specs.Refusals.{batchRow1, batchRow4, batchRow6, batchRow7}
+use Rattle.process_output.specs.Refusals.{batchRow1, batchRow4, batchRow15, batchRow6, batchRow7}
 use Rattle.process_output.specs.Process.{BatchCall}
 
 pub record Row : Type 0 where
@@ -143,13 +143,14 @@ refusalIn quiet = nothing
 refusalIn (fault k) = nothing
 refusalIn (refusal n) = found n
 
--- a batch: 1; reading, 2 and 3; 4; 5; 6; 7
+-- a batch: 1; reading, 2 and 3; 4; 15 (02, CR 1); 5; 6; 7
 unfoldable pub batchRows : Sizes → StateOf → BatchCall → List Row
 batchRows z s b =
     row 1 (batchRow1 z (b .fault-places) (b .due-places))
     ∷ row 2 (readsTo 2 (readBatch z (b .bytes)))
     ∷ row 3 (readsTo 3 (readBatch z (b .bytes)))
     ∷ row 4 (ofRead (λ (cs : List ContribOf). batchRow4 cs (b .verdicts)) (readBatch z (b .bytes)))
+    ∷ row 15 (batchRow15 (eraOf s) (b .era))
     ∷ row 5 (row5 (eraOf s + b .inner))
     ∷ row 6 (ofRead (batchRow6 s) (readBatch z (b .bytes)))
     ∷ row 7 (ofRead (batchRow7 z s (b .verdicts)) (readBatch z (b .bytes)))

@@ -55,19 +55,19 @@ pub(crate) fn find(s: &[u8], from: usize, b: u8) -> usize
     i
 }
 
-// Where the fields of a line start and end, and how many there are. No call has more than six, so a seventh ends the search.
+// Where the fields of a line start and end, and how many there are. No call has more than seven, so an eighth ends the search.
 pub struct Fields {
     pub count: usize,
-    pub starts: [usize; 7],
-    pub ends: [usize; 7],
+    pub starts: [usize; 8],
+    pub ends: [usize; 8],
 }
 
 pub(crate) fn split(s: &[u8]) -> Fields {
-    let mut starts = [0usize; 7];
-    let mut ends = [0usize; 7];
+    let mut starts = [0usize; 8];
+    let mut ends = [0usize; 8];
     let mut at: usize = 0;
     let mut n: usize = 0;
-    while n < 7 {
+    while n < 8 {
         let e = find(s, at, b' ');
         starts[n] = at;
         ends[n] = e;
@@ -100,7 +100,7 @@ pub(crate) fn part(s: &[u8], from: usize, to: usize) -> &[u8] {
 
 // The field with a number, counted from 0.
 pub(crate) fn field(s: &[u8], f: Fields, k: usize) -> &[u8] {
-    if k < 7 {
+    if k < 8 {
         return part(s, f.starts[k], f.ends[k]);
     }
     &s[0..0]

@@ -203,6 +203,7 @@ pub(crate) fn call(
     let batch = part(bytes, 0, b.batch);
     process_batch::process_batch(
         replica,
+        b.era,
         b.inner,
         batch,
         part(bytes, b.batch, b.verdicts),

@@ -34,8 +34,9 @@ pub struct Join {
     pub places: usize,
 }
 
-// batch INNER BATCH VERDICTS FAULT_PLACES DUE_PLACES
+// batch ERA INNER BATCH VERDICTS FAULT_PLACES DUE_PLACES
 pub struct Agreed {
+    pub era: u64,
     pub inner: u64,
     pub batch: usize,
     pub verdicts: usize,
@@ -58,6 +59,7 @@ pub enum Question {
     Propose(bool, u64),
     Next(u64),
     State,
+    Last,
     NoEngine,
     Schedule(u64, usize),
     User(u32, usize),
@@ -78,7 +80,7 @@ pub enum Call {
 // The numbers of a line's fields behind the word; of bytes, where they end.
 pub struct Values {
     pub good: bool,
-    pub numbers: [u64; 5],
+    pub numbers: [u64; 6],
 }
 
 // A form's number, and where in the list of forms its letters are.
@@ -90,7 +92,7 @@ pub struct Form {
 
 fn no_form() -> Form {
     Form {
-        number: 16,
+        number: 17,
         start: 0,
         end: 0,
     }
@@ -101,7 +103,7 @@ fn form_of(forms: &[u8], word: &[u8]) -> Form {
     let n = forms.len();
     let mut at: usize = 0;
     let mut k: u64 = 0;
-    while k < 16 {
+    while k < 17 {
         let e = find(forms, at, b' ');
         if e == n {
             return no_form();
@@ -137,7 +139,7 @@ fn value_of(kind: u8, s: &[u8], bytes: &mut [u8], used: usize) -> Parsed {
 
 // The numbers of all fields behind the word.
 fn values_of(line: &[u8], f: Fields, letters: &[u8], bytes: &mut [u8]) -> Values {
-    let mut numbers = [0u64; 5];
+    let mut numbers = [0u64; 6];
     let mut used: usize = 0;
     let mut i: usize = 0;
     while i < letters.len() {
@@ -147,7 +149,7 @@ fn values_of(line: &[u8], f: Fields, letters: &[u8], bytes: &mut [u8]) -> Values
                 numbers,
             };
         };
-        if i < 5 {
+        if i < 6 {
             numbers[i] = x;
         }
         if letters[i] == b'b' {
@@ -193,19 +195,21 @@ fn question_of(k: u64, a: u64, b: u64) -> Question {
         13 => Question::Schedule(a, b as usize),
         14 => Question::User(id_of(a), b as usize),
         15 => Question::State,
+        16 => Question::Last,
         _ => Question::Bad,
     }
 }
 
 // The call with a form's number and the numbers of its fields.
-fn call_of(k: u64, a: u64, b: u64, c: u64, d: u64, e: u64) -> Call {
+fn call_of(k: u64, a: u64, b: u64, c: u64, d: u64, e: u64, f: u64) -> Call {
     match k {
         0 => Call::Batch(Agreed {
-            inner: a,
-            batch: b as usize,
-            verdicts: c as usize,
-            faults: d as usize,
-            due: e as usize,
+            era: a,
+            inner: b,
+            batch: c as usize,
+            verdicts: d as usize,
+            faults: e as usize,
+            due: f as usize,
         }),
         1 => Call::Message(id_of(a), b as usize),
         2 => Call::Due(a as usize),
@@ -220,8 +224,8 @@ fn call_of(k: u64, a: u64, b: u64, c: u64, d: u64, e: u64) -> Call {
 
 // The words of calls, each with the kinds of its fields: an id, a number, bytes, places, a flag.
 fn parse_fields(line: &[u8], bytes: &mut [u8]) -> Call {
-    let forms = b"batch nbbpp message ib due b vote b add in remove i new innbb join inbp \
-        plan np stored n pending n propose fn next n schedule nb user ib state ";
+    let forms = b"batch nnbbpp message ib due b vote b add in remove i new innbb join inbp \
+        plan np stored n pending n propose fn next n schedule nb user ib state  last ";
     let f = split(line);
     let form = form_of(forms, field(line, f, 0));
     let letters = part(forms, form.start, form.end);
@@ -237,6 +241,7 @@ fn parse_fields(line: &[u8], bytes: &mut [u8]) -> Call {
             v.numbers[2],
             v.numbers[3],
             v.numbers[4],
+            v.numbers[5],
         );
     }
     Call::Ask(Question::Bad)

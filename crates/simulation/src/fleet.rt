@@ -79,16 +79,39 @@ impl Fleet {
         self
     }
 
-    // Takes a batch and writes the step's line; nothing once writing has failed.
-    pub(crate) fn take(self, step: u64, inner: u64, batch: Written) -> Self {
+    // Takes a batch of an era and writes the step's line; nothing once writing has failed.
+    pub(crate) fn take(self, step: u64, era: u64, inner: u64, batch: Written) -> Self {
         if !self.going {
             return self;
         }
-        let first = handle(self.replica(0), 0, inner, batch);
+        let first = handle(self.replica(0), 0, era, inner, batch);
         let processed = first.processed;
         let f = self.lead(processed);
-        let g = f.follow(step, first, inner, batch);
+        let g = f.follow(step, first, era, inner, batch);
         g.tell(step, first)
+    }
+
+    // Replica i alone is given a batch; then all are compared in what they hold, and the step's line is written.
+    pub(crate) fn take_alone(
+        mut self,
+        step: u64,
+        i: usize,
+        era: u64,
+        inner: u64,
+        batch: Written,
+    ) -> Self
+        requires { ⌜ i < replicas ⌝ }
+    {
+        if !self.going {
+            return self;
+        }
+        let a = handle(self.replica(i), i, era, inner, batch);
+        let processed = a.processed;
+        let state = processed.state;
+        self.agree = true;
+        let f = self.put(i, state);
+        let g = f.compare_states(step);
+        g.tell_alone(step, i, number(a))
     }
 
     // What the first replica answered.
@@ -101,12 +124,24 @@ impl Fleet {
     }
 
     // The other replicas take the batch.
-    fn follow(mut self, step: u64, first: Called, inner: u64, batch: Written) -> Self {
+    fn follow(mut self, step: u64, first: Called, era: u64, inner: u64, batch: Written) -> Self {
         let n = self.len();
         let mut i: usize = 1;
         while i < n {
-            let b = handle(self.replica(i), i, inner, batch);
+            let b = handle(self.replica(i), i, era, inner, batch);
             self = self.compared(step, first, i, b);
+            i += 1;
+        }
+        self
+    }
+
+    // What each replica holds, compared with what the first holds.
+    fn compare_states(mut self, step: u64) -> Self {
+        let n = self.len();
+        let mut i: usize = 1;
+        while i < n {
+            let d = crate::compare::shared_difference(self.replica(0), self.replica(i));
+            self = self.differs(step, i, d);
             i += 1;
         }
         self
@@ -131,6 +166,15 @@ impl Fleet {
             self.agree = false;
             return self;
         };
+        self
+    }
+
+    // What replica i alone answered, where all agree.
+    fn tell_alone(mut self, step: u64, i: usize, refusal: u8) -> Self {
+        if self.agree {
+            let still = crate::show::alone(self.going, step, i, refusal);
+            self.going = tell_network(still, self.replica(0));
+        }
         self
     }
 
@@ -176,12 +220,12 @@ fn verdicts_of(batch: &[u8]) -> usize {
 }
 
 // The batch as one replica handles it.
-fn handle(state: DynamicHoneyBadger, i: usize, inner: u64, batch: Written) -> Called {
+fn handle(state: DynamicHoneyBadger, i: usize, era: u64, inner: u64, batch: Written) -> Called {
     let bytes = batch.bytes;
     let lent = first(&bytes, batch.len);
     let verdicts = [verdict(i); Fleet::VERDICTS];
     let given = first(&verdicts, verdicts_of(lent));
-    crate::host::call(state, inner, lent, given)
+    crate::host::call(state, era, inner, lent, given)
 }
 
 // The refusal's number, 0 where there is none.

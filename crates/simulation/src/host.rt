@@ -52,7 +52,13 @@ pub struct Called {
     pub faults: Faults,
 }
 
-pub(crate) fn call(state: DynamicHoneyBadger, inner: u64, batch: &[u8], verdicts: &[u8]) -> Called {
+pub(crate) fn call(
+    state: DynamicHoneyBadger,
+    era: u64,
+    inner: u64,
+    batch: &[u8],
+    verdicts: &[u8],
+) -> Called {
     let mut ids = [0u32; FaultLog::LIMIT];
     let mut kinds = [0u8; FaultLog::LIMIT];
     let mut due_kinds = [0u8; DueList::LIMIT];
@@ -60,6 +66,7 @@ pub(crate) fn call(state: DynamicHoneyBadger, inner: u64, batch: &[u8], verdicts
     let mut due_eras = [0u64; DueList::LIMIT];
     let processed = process_batch::process_batch(
         state,
+        era,
         inner,
         batch,
         verdicts,

@@ -165,28 +165,39 @@ fn between(f: Fleet, candidate: PubKeyMap) -> Fleet {
 
 // Steps 2 and 3: the parts and the acks of key generation.
 fn generate(f: Fleet, candidate: PubKeyMap) -> Fleet {
-    let a = f.take(2, 0, batches::parts(1, candidate));
+    let a = f.take(2, 1, 0, batches::parts(1, candidate));
     let b = hand_back(a, candidate);
-    b.take(3, 1, batches::acks(1, candidate))
+    b.take(3, 1, 1, batches::acks(1, candidate))
 }
 
 // Steps 1 to 3: node 5 is voted in, and key generation with it runs and completes.
 pub(crate) fn grow(f: Fleet) -> Fleet {
     let candidate = batches::roster(5);
-    let a = f.take(1, 0, batches::votes(0, 2, Change::node_change(candidate)));
+    let a = f.take(
+        1,
+        0,
+        0,
+        batches::votes(0, 2, Change::node_change(candidate)),
+    );
     let b = between(a, candidate);
     generate(b, candidate)
 }
 
 // Steps 4 to 6: a batch with a byte left over, a schedule, and node 3 is voted out.
 pub(crate) fn shrink(f: Fleet) -> Fleet {
-    let a = f.take(4, 0, batches::nothing(9));
+    let a = f.take(4, 3, 0, batches::nothing(9));
     let b = a.take(
         5,
+        3,
         0,
         batches::votes(3, 2, Change::schedule(EncryptionSchedule::Never)),
     );
-    b.take(6, 2, batches::votes(4, 2, Change::node_change(remaining())))
+    b.take(
+        6,
+        4,
+        2,
+        batches::votes(4, 2, Change::node_change(remaining())),
+    )
 }
 
 // The map without node 3.
@@ -247,17 +258,24 @@ fn join(f: Fleet) -> Fleet {
     admit(f, start_joining(report))
 }
 
-// Steps 7 to 10: a replica joins, a part of the leaving node is refused, key generation completes, and nothing is left to do.
-pub(crate) fn end(f: Fleet) -> Fleet {
-    let a = join(f);
-    let b = a.take(8, 0, batches::one_part(7, remaining(), 3));
-    let c = b.take(9, 0, batches::parts_and_acks(7, remaining()));
-    c.take(10, 0, batches::nothing(8))
+// Step 10: the second replica alone is given one more batch of era 7, which step 9 closed; its votes would win in era 8.
+fn catch_up(f: Fleet) -> Fleet {
+    let change = Change::schedule(EncryptionSchedule::Always);
+    f.take_alone(10, 1, 7, 1, batches::votes(8, 2, change))
 }
 
-// Steps 11 and 12: the vote of node 1 alone stays committed, and that of node 3, which has left, is a fault; with the vote of node 2 the schedule wins.
+// Steps 7 to 11: a replica joins, a part of the leaving node is refused, key generation completes, a replica gets a batch too late, and nothing is left to do.
+pub(crate) fn end(f: Fleet) -> Fleet {
+    let a = join(f);
+    let b = a.take(8, 7, 0, batches::one_part(7, remaining(), 3));
+    let c = b.take(9, 7, 0, batches::parts_and_acks(7, remaining()));
+    let d = catch_up(c);
+    d.take(11, 8, 0, batches::nothing(8))
+}
+
+// Steps 12 and 13: the vote of node 1 alone stays committed, and that of node 3, which has left, is a fault; with the vote of node 2 the schedule wins.
 pub(crate) fn wait(f: Fleet) {
     let change = Change::schedule(EncryptionSchedule::EveryNthEpoch(2));
-    let a = f.take(11, 1, batches::votes(8, 3, change));
-    a.take(12, 2, batches::one_vote(8, 2, change));
+    let a = f.take(12, 8, 1, batches::votes(8, 3, change));
+    a.take(13, 8, 2, batches::one_vote(8, 2, change));
 }

@@ -72,6 +72,13 @@ pub(crate) fn agree(going: bool, step: u64, refusal: u8, faults: usize) -> bool 
     write_some(c, b" faults ", faults as u64)
 }
 
+// All replicas hold the same, after one of them alone was given a batch; its refusal is shown.
+pub(crate) fn alone(going: bool, step: u64, i: usize, refusal: u8) -> bool {
+    let a = write_number(going, step);
+    let b = write_named(a, b" agree replica ", i as u64);
+    write_some(b, b" refused ", refusal as u64)
+}
+
 // A replica joined, and stands where the others stand.
 pub(crate) fn joined(going: bool, step: u64) -> bool {
     write(write_number(going, step), b" joined")

@@ -69,6 +69,7 @@ module _ (z : Sizes) (proposer : ℕ) (w : WorkOf) (v : SignedVoteOf) where
             params = w .state .params;
             key-gen = w .state .key-gen;
             store = w .state .store;
+            last = w .state .last;
           };
           faults = w .faults;
           due = w .due;
@@ -81,7 +82,7 @@ module _ (z : Sizes) (proposer : ℕ) (w : WorkOf) (v : SignedVoteOf) where
 module _ (z : Sizes) (proposer : ℕ) (w : WorkOf) (m : SignedKeyGenMsgOf) (verdict : ℕ) (verdicts : List ℕ) (judged : w .verdicts ≡ verdict ∷ verdicts) where
   -- "Stored own-side messages equal to a committed one go", whatever becomes of it; votes, map, era and parameters stay
   abbrev left : Found KeyGenStateOf → StateOf
-  left g = record { counter = w .state .counter; params = w .state .params; key-gen = g; store = without m (w .state .store) }
+  left g = record { counter = w .state .counter; params = w .state .params; key-gen = g; store = without m (w .state .store); last = w .state .last }
 
   -- a fault of a node, with key generation as it was; each message uses up one verdict
   abbrev faulted : ℕ → FaultKind → WorkOf

@@ -38,6 +38,9 @@ at-turn-requires-2 c κs = search needs
 at-turn-requires-3 : tie.Need-at-turn-requires-3 Inv-loop μ-loop
 at-turn-requires-3 c κs = search needs
 
+at-turn-requires-4 : tie.Need-at-turn-requires-4 Inv-loop μ-loop
+at-turn-requires-4 c κs = search needs
+
 part-requires : tie.Need-part-requires Inv-loop μ-loop
 part-requires c κs = search needs
 
@@ -54,10 +57,10 @@ is-reported-requires : tie.Need-is-reported-requires Inv-loop μ-loop
 is-reported-requires c κs = search needs
 
 add-i : tie.Need-add-i Inv-loop μ-loop
-add-i c = omega (arith, c .before .before .before .before .before .before .before .before .before .before .before .before .before .before .loop-test .taken, c .before .before .before .before .before .before .before .before .before .before .before .before .before .before .before .before .before .turns .ensures)
+add-i c = omega (arith, c .before .before .before .before .before .before .before .before .before .before .before .before .before .before .before .loop-test .taken, c .before .before .before .before .before .before .before .before .before .before .before .before .before .before .before .before .before .before .turns .ensures)
 
 loop-less : tie.Need-loop-less Inv-loop μ-loop
-loop-less c = omega (arith, c .before .before .before .before .before .before .before .before .before .before .before .before .before .before .loop-test .taken)
+loop-less c = omega (arith, c .before .before .before .before .before .before .before .before .before .before .before .before .before .before .before .loop-test .taken)
 
 loop-again : tie.Need-loop-again Inv-loop μ-loop
 loop-again c = tt
@@ -77,6 +80,7 @@ take-batches-spec =
     at-turn-requires
     at-turn-requires-2
     at-turn-requires-3
+    at-turn-requires-4
     part-requires
     slice-aggregate-part
     part-requires-2

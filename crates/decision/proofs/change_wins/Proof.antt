@@ -23,14 +23,14 @@ schedule-wins-requires c κs = search needs
 returns : tie.Need-returns
 returns c =
     let a = c .before .before .before .before .args in (
-      λ st. c .map-wins .ensures .0 st ∙ ap (λ (w : ChangeOf). electedBy base (a .era) (partsOf (a .params) (a .counter) (a .state) st) (found w)) (sym (change-map (a .change) (c .before .enum-told .given .1))),
+      λ st l. c .map-wins .ensures .0 st l ∙ ap (λ (w : ChangeOf). electedBy base (a .era) (partsOf (a .params) (a .counter) (a .state) st l) (found w)) (sym (change-map (a .change) (c .before .enum-told .given .1))),
       c .map-wins .ensures .1,
     )
 
 returns-2 : tie.Need-returns-2
 returns-2 c =
     let a = c .before .before .before .before .before .args in (
-      λ st. c .schedule-wins .ensures .0 st ∙ ap (λ (w : ChangeOf). electedBy base (a .era) (partsOf (a .params) (a .counter) (a .state) st) (found w)) (sym (change-schedule (a .change) _ (c .before .before .kind .given .1))),
+      λ st l. c .schedule-wins .ensures .0 st l ∙ ap (λ (w : ChangeOf). electedBy base (a .era) (partsOf (a .params) (a .counter) (a .state) st l) (found w)) (sym (change-schedule (a .change) _ (c .before .before .kind .given .1))),
       c .schedule-wins .ensures .1,
     )
 

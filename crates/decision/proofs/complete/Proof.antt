@@ -23,8 +23,8 @@ returns : tie.Need-returns
 returns c =
     let a = c .before .before .before .before .before .before .args in
     let v = c .before .before .before .new .result in (
-      λ st. same-decision
-          (era-begun (a .era) (a .counter) v (a .state .«key_gen» .«pub_keys») (a .params) nothing st (c .before .before .before .new .ensures))
+      λ st l. same-decision
+          (era-begun (a .era) (a .counter) v (a .state .«key_gen» .«pub_keys») (a .params) nothing st l (c .before .before .before .new .ensures))
           (c .before .complete .ensures ∙ ap complete (c .before .before .node-change .ensures))
           refl
           (ap found (c .generate .ensures)),

@@ -20,7 +20,7 @@ returns : tie.Need-returns
 returns c =
     let a = c .before .before .before .args in
     let ready : running.readyState (running.stateOf (a .state)) ≡ true = sym (c .before .before .is-ready .ensures) ∙ c .before .if1 .taken in (
-      λ st. let s = partsOf (a .params) (a .counter) (a .state) st in c .complete .ensures .0 st ∙ ap (λ (g : Found running.KeyGenStateOf). completedBy (a .era) s g) (sym (ready-runs (a .state) ready)) ∙ sym (by-ready base (a .era) s (electedOf (a .e)) ready),
+      λ st l. let s = partsOf (a .params) (a .counter) (a .state) st l in c .complete .ensures .0 st l ∙ ap (λ (g : Found running.KeyGenStateOf). completedBy (a .era) s g) (sym (ready-runs (a .state) ready)) ∙ sym (by-ready base (a .era) s (electedOf (a .e)) ready),
       c .complete .ensures .1,
     )
 
@@ -31,7 +31,7 @@ returns-2 : tie.Need-returns-2
 returns-2 c =
     let a = c .before .before .before .before .before .args in
     let unready : running.readyState (running.stateOf (a .state)) ≡ false = sym (c .before .before .before .before .is-ready .ensures) ∙ c .before .before .before .if1 .left in (
-      λ st. let s = partsOf (a .params) (a .counter) (a .state) st in c .change-wins .ensures .0 st ∙ ap (λ (w : Found ChangeOf). electedBy base (a .era) s w) (sym (elected-found (a .e) (c .before .before .if2 .taken))) ∙ sym (by-elects base (a .era) s (electedOf (a .e)) unready),
+      λ st l. let s = partsOf (a .params) (a .counter) (a .state) st l in c .change-wins .ensures .0 st l ∙ ap (λ (w : Found ChangeOf). electedBy base (a .era) s w) (sym (elected-found (a .e) (c .before .before .if2 .taken))) ∙ sym (by-elects base (a .era) s (electedOf (a .e)) unready),
       c .change-wins .ensures .1,
     )
 
@@ -45,7 +45,7 @@ returns-3 : tie.Need-returns-3
 returns-3 c =
     let a = c .before .before .before .before .before .args in
     let unready : running.readyState (running.stateOf (a .state)) ≡ false = sym (c .before .before .before .before .is-ready .ensures) ∙ c .before .before .before .if1 .left in (
-      λ st. let s = partsOf (a .params) (a .counter) (a .state) st in same-decision refl (ap progressOf (c .before .none .ensures)) refl refl ∙ ap (λ (w : Found ChangeOf). electedBy base (a .era) s w) (sym (elected-none (a .e) (c .before .before .if2 .left))) ∙ sym (by-elects base (a .era) s (electedOf (a .e)) unready),
+      λ st l. let s = partsOf (a .params) (a .counter) (a .state) st l in same-decision refl (ap progressOf (c .before .none .ensures)) refl refl ∙ ap (λ (w : Found ChangeOf). electedBy base (a .era) s w) (sym (elected-none (a .e) (c .before .before .if2 .left))) ∙ sym (by-elects base (a .era) s (electedOf (a .e)) unready),
       λ e. c .empty .ensures,
     )
 

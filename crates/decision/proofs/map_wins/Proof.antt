@@ -27,9 +27,9 @@ decided-requires c κs = search needs
 returns : tie.Need-returns
 returns c =
     let a = c .before .before .before .before .before .args in (
-      λ st. ap (decidedOf (a .era) st) (c .decided .ensures)
+      λ st l. ap (decidedOf (a .era) st l) (c .decided .ensures)
           ∙ same-decision refl (c .before .before .before .in-progress .ensures ∙ ap inProgress (c .before .before .before .before .node-change .ensures)) refl refl
-          ∙ sym (map-again base (a .era) (partsOf (a .params) (a .counter) (a .state) st) (nodesOf (a .map)) (sym (c .before .before .is-candidate .ensures) ∙ c .before .if1 .taken)),
+          ∙ sym (map-again base (a .era) (partsOf (a .params) (a .counter) (a .state) st l) (nodesOf (a .map)) (sym (c .before .before .is-candidate .ensures) ∙ c .before .if1 .taken)),
       λ e. ap (λ (d : Decision). d .recipe) (c .decided .ensures),
     )
 
@@ -51,13 +51,13 @@ decided-requires-2 c κs = search needs
 returns-2 : tie.Need-returns-2
 returns-2 c =
     let a = c .before .before .before .before .before .before .before .before .before .before .before .args in (
-      λ st. ap (decidedOf (a .era) st) (c .decided2 .ensures)
+      λ st l. ap (decidedOf (a .era) st l) (c .decided2 .ensures)
           ∙ same-decision
-          (map-begun (a .era) (a .counter) (c .before .before .before .before .new .result) (a .map) (a .params) (a .state) (c .before .new2 .result) (c .before .before .renew .result) st (c .before .before .before .before .new .ensures) (c .before .before .renew .ensures) (c .before .new2 .ensures))
+          (map-begun (a .era) (a .counter) (c .before .before .before .before .new .result) (a .map) (a .params) (a .state) (c .before .new2 .result) (c .before .before .renew .result) st l (c .before .before .before .before .new .ensures) (c .before .before .renew .ensures) (c .before .new2 .ensures))
           (c .before .before .before .before .before .before .before .before .before .in-progress .ensures ∙ ap inProgress (c .before .before .before .before .before .before .before .before .before .before .node-change .ensures))
           (ap (λ (b : Bool). cond b (record { kind = Part; era = a .era } ∷ []) []) (c .before .before .before .before .before .is-member .ensures))
           refl
-          ∙ sym (map-new base (a .era) (partsOf (a .params) (a .counter) (a .state) st) (nodesOf (a .map)) (sym (c .before .before .before .before .before .before .before .before .is-candidate .ensures) ∙ c .before .before .before .before .before .before .before .if1 .left)),
+          ∙ sym (map-new base (a .era) (partsOf (a .params) (a .counter) (a .state) st l) (nodesOf (a .map)) (sym (c .before .before .before .before .before .before .before .before .is-candidate .ensures) ∙ c .before .before .before .before .before .before .before .if1 .left)),
       λ e. ap (λ (d : Decision). d .recipe) (c .decided2 .ensures),
     )
 

@@ -99,7 +99,7 @@ abbrev TakenSaid : Answered → Processed → Type 0
 TakenSaid r a = a ≡ r .processed
 
 abbrev stayed : Stays (f.ended .signature .params) (f.ended .kept)
-stayed = (stay-none (λ _. S.the-row) yes, (stay-none (λ _. u64) yes, (stay-none-slice (0 ∷ []) tt (plain (λ _. u8)) yes, (stay-none-slice (1 ∷ []) tt (plain (λ _. u8)) yes, (gave-slice (2 ∷ []) tt (plain (λ _. R)), (gave-slice (3 ∷ []) tt (plain (λ _. u8)), (gave-slice (4 ∷ []) tt (plain (λ _. u64)), (gave-slice (5 ∷ []) tt (plain (λ _. u64)), tt))))))))
+stayed = (stay-none (λ _. S.the-row) yes, (stay-none (λ _. u64) yes, (stay-none (λ _. u64) yes, (stay-none-slice (0 ∷ []) tt (plain (λ _. u8)) yes, (stay-none-slice (1 ∷ []) tt (plain (λ _. u8)) yes, (gave-slice (2 ∷ []) tt (plain (λ _. R)), (gave-slice (3 ∷ []) tt (plain (λ _. u8)), (gave-slice (4 ∷ []) tt (plain (λ _. u64)), (gave-slice (5 ∷ []) tt (plain (λ _. u64)), tt)))))))))
 
 module _ {M : Type 1} (𝓤 : URA M) (H : Heap 𝓤) (A : Atoms 𝓤) (at-mem : Memory → SProp 𝓤) (run : Routine → Fun 𝓤) where
   -- the contracts that the proof cites
@@ -131,7 +131,7 @@ spelled-log g v is = subst (λ (us : List Val). Is F.the-row g us) (LL.tells F.t
 module _ {M : Type 1} (𝓤 : URA M) (H : Heap 𝓤) (A : Atoms 𝓤) (W : Given 𝓤 H A) (at-mem : Memory → SProp 𝓤) (run : Routine → Fun 𝓤)
     (κ₀ κ₁ κ₂ κ₃ κ₄ κ₅ : Lft) (q₀ q₁ q₂ q₃ q₄ q₅ : Share) (b₀ b₁ b₂ b₃ b₄ b₅ : ℕ) (o₀ o₁ o₂ o₃ o₄ o₅ : ℕ) (γ₀ γ₁ γ₂ γ₃ γ₄ γ₅ : GName) (bs vs : List ℕ) (fs : List FaultRecord) (ks js es : List ℕ)
     (r₀ : Room u8 (length bs)) (r₁ : Room u8 (length vs)) (r₂ : Room R (length fs)) (r₃ : Room u8 (length ks)) (r₄ : Room u64 (length js)) (r₅ : Room u64 (length es))
-    (s : DynamicHoneyBadger) (inner : ℕ) (gs : Is S.the-row s (sval s ∷ [])) (gi : inner < 2 ^ 64) where
+    (s : DynamicHoneyBadger) (era inner : ℕ) (gs : Is S.the-row s (sval s ∷ [])) (ge : era < 2 ^ 64) (gi : inner < 2 ^ 64) where
   abbrev x₀ : RefT (List ℕ)
   x₀ = record { ptr = (b₀, o₀); name = γ₀; now = bs }
 
@@ -172,16 +172,16 @@ module _ {M : Type 1} (𝓤 : URA M) (H : Heap 𝓤) (A : Atoms 𝓤) (W : Given
   Slice = RefT (List ℕ)
 
   abbrev Arg : Type 0
-  Arg = DynamicHoneyBadger × (ℕ × (Slice × (Slice × (RefT (List FaultRecord) × (Slice × (Slice × (Slice × Unit {0})))))))
+  Arg = DynamicHoneyBadger × (ℕ × (ℕ × (Slice × (Slice × (RefT (List FaultRecord) × (Slice × (Slice × (Slice × Unit {0}))))))))
 
   abbrev a : Arg
-  a = (s, (inner, (x₀, (x₁, (x₂, (x₃, (x₄, (x₅, tt))))))))
+  a = (s, (era, (inner, (x₀, (x₁, (x₂, (x₃, (x₄, (x₅, tt)))))))))
 
   abbrev Vals : Type 0
-  Vals = List Val × (List Val × (List Val × (List Val × (List Val × (List Val × (List Val × (List Val × Unit {0})))))))
+  Vals = List Val × (List Val × (List Val × (List Val × (List Val × (List Val × (List Val × (List Val × (List Val × Unit {0}))))))))
 
   abbrev at : Vals
-  at = (sval s ∷ [], (vint w64 inner ∷ [], (m₀ ∷ [], (m₁ ∷ [], (m₂ ∷ [], (m₃ ∷ [], (m₄ ∷ [], (m₅ ∷ [], tt))))))))
+  at = (sval s ∷ [], (vint w64 era ∷ [], (vint w64 inner ∷ [], (m₀ ∷ [], (m₁ ∷ [], (m₂ ∷ [], (m₃ ∷ [], (m₄ ∷ [], (m₅ ∷ [], tt)))))))))
 
   abbrev own₀ : Fml
   own₀ = ShrSlice (named 0) κ₀ u8 .own x₀ (m₀ ∷ [])
@@ -191,13 +191,13 @@ module _ {M : Type 1} (𝓤 : URA M) (H : Heap 𝓤) (A : Atoms 𝓤) (W : Given
 
   -- what the callees ensure
   abbrev DueSaid : Answered → List ℕ → List ℕ → List ℕ → Type 0
-  DueSaid r ks′ js′ es′ = FaultsDone s inner bs vs (length fs) (dues ks js es) r (dues ks′ js′ es′)
+  DueSaid r ks′ js′ es′ = FaultsDone s era inner bs vs (length fs) (dues ks js es) r (dues ks′ js′ es′)
 
   abbrev WriteSaid : FaultRecords → List FaultRecord → Type 0
   WriteSaid g fs′ = fs′ ≡ filled (recordsIn g) fs
 
   abbrev Said : Processed → List FaultRecord → List ℕ → List ℕ → List ℕ → Type 0
-  Said r fs′ ks′ js′ es′ = RecordsDone s inner bs vs fs (dues ks js es) r fs′ (dues ks′ js′ es′)
+  Said r fs′ ks′ js′ es′ = RecordsDone s era inner bs vs fs (dues ks js es) r fs′ (dues ks′ js′ es′)
 
   -- the four facts make the contract's
   said : (r : Answered) (g : FaultRecords) (p : Processed) (fs′ : List FaultRecord) (ks′ js′ es′ : List ℕ) → DueSaid r ks′ js′ es′ → LogSaid r g → WriteSaid g fs′ → TakenSaid r p → Said p fs′ ks′ js′ es′
@@ -212,7 +212,7 @@ module _ {M : Type 1} (𝓤 : URA M) (H : Heap 𝓤) (A : Atoms 𝓤) (W : Given
       → ent 𝓤 (⋆ 𝓤 H A (‵ (flft κ₀ q₀) ∷ ‵ (flft κ₁ q₁) ∷ ‵ (flft κ₂ q₂) ∷ ‵ (flft κ₃ q₃) ∷ ‵ (flft κ₄ q₄) ∷ ‵ (flft κ₅ q₅) ∷ ‵ own₀ ∷ ‵ own₁ ∷ ‵ (finally R γ₂ fs′) ∷ ‵ (finally u8 γ₃ ks′) ∷ ‵ (finally u64 γ₄ js′) ∷ ‵ (finally u64 γ₅ es′) ∷ [])) (Post v)
   exits r v is fs′ ks′ js′ es′ n₂ n₃ n₄ n₅ e =
       qed W (‵ (flft κ₀ q₀) ∷ ‵ (flft κ₁ q₁) ∷ ‵ (flft κ₂ q₂) ∷ ‵ (flft κ₃ q₃) ∷ ‵ (flft κ₄ q₄) ∷ ‵ (flft κ₅ q₅) ∷ ‵ own₀ ∷ ‵ own₁ ∷ ‵ (finally R γ₂ fs′) ∷ ‵ (finally u8 γ₃ ks′) ∷ ‵ (finally u64 γ₄ js′) ∷ ‵ (finally u64 γ₅ es′) ∷ []) ∵
-      suffices ! _ (ends-at 𝓤 H A f.ended stayed (f.clauses 𝓤 H A at-mem run) W (((κ₀, (κ₁, (κ₂, (κ₃, (κ₄, (κ₅, tt)))))), (q₀, (q₁, (q₂, (q₃, (q₄, (q₅, tt)))))), tt, a, at), tt) v r (tt, (tt, (tt, (tt, (fs′, (ks′, (js′, (es′, tt)))))))) (tt, (tt, (tt, (tt, (n₂, (n₃, (n₄, (n₅, tt))))))))) $ says ! e $
+      suffices ! _ (ends-at 𝓤 H A f.ended stayed (f.clauses 𝓤 H A at-mem run) W (((κ₀, (κ₁, (κ₂, (κ₃, (κ₄, (κ₅, tt)))))), (q₀, (q₁, (q₂, (q₃, (q₄, (q₅, tt)))))), tt, a, at), tt) v r (tt, (tt, (tt, (tt, (tt, (fs′, (ks′, (js′, (es′, tt))))))))) (tt, (tt, (tt, (tt, (tt, (n₂, (n₃, (n₄, (n₅, tt)))))))))) $ says ! e $
       nothing ! $
       move ! (6 ∷ 0 ∷ []) $
       join ! $
@@ -242,16 +242,18 @@ module _ {M : Type 1} (𝓤 : URA M) (H : Heap 𝓤) (A : Atoms 𝓤) (W : Given
       fjoin ! $
       owned ! u64 (Is u64) (uint-makes 𝓤 H A W w64) inner _ (refl, gi) $
       fjoin ! $
+      owned ! u64 (Is u64) (uint-makes 𝓤 H A W w64) era _ (refl, ge) $
+      fjoin ! $
       owned ! S.the-row (Is S.the-row) ((LL.makes S.the-type S′.the-plain) 𝓤 H A) s _ gs $
       fjoin ! $
       owned ! P.the-row (Is P.the-row) ((LL.makes P.the-type P′.the-plain) 𝓤 H A) r _ is $ move ! (1 ∷ 0 ∷ []) $ done !
 
   -- the calls
   abbrev to-due : Due 𝓤 H A at-mem run .Ghost
-  to-due = (((κ₀, (κ₁, (κ₃, (κ₄, (κ₅, tt))))), (q₀, (q₁, (q₃, (q₄, (q₅, tt))))), tt, (s, (inner, (x₀, (x₁, (length fs, (x₃, (x₄, (x₅, tt)))))))), (sval s ∷ [], (vint w64 inner ∷ [], (m₀ ∷ [], (m₁ ∷ [], (vint w64 (length fs) ∷ [], (m₃ ∷ [], (m₄ ∷ [], (m₅ ∷ [], tt))))))))), tt)
+  to-due = (((κ₀, (κ₁, (κ₃, (κ₄, (κ₅, tt))))), (q₀, (q₁, (q₃, (q₄, (q₅, tt))))), tt, (s, (era, (inner, (x₀, (x₁, (length fs, (x₃, (x₄, (x₅, tt))))))))), (sval s ∷ [], (vint w64 era ∷ [], (vint w64 inner ∷ [], (m₀ ∷ [], (m₁ ∷ [], (vint w64 (length fs) ∷ [], (m₃ ∷ [], (m₄ ∷ [], (m₅ ∷ [], tt)))))))))), tt)
 
-  goes-due : ent 𝓤 (⋆ 𝓤 H A ((‵ (flft κ₀ q₀) ⊛ ‵ (flft κ₁ q₁) ⊛ ‵ (flft κ₃ q₃) ⊛ ‵ (flft κ₄ q₄) ⊛ ‵ (flft κ₅ q₅) ⊛ ‵ ftrue) ∷ ‵ (owns (S.the-row ∷ u64 ∷ ShrSlice (named 0) κ₀ u8 ∷ ShrSlice (named 1) κ₁ u8 ∷ usize ∷ MutSlice (named 2) κ₃ u8 ∷ MutSlice (named 3) κ₄ u64 ∷ MutSlice (named 4) κ₅ u64 ∷ []) (s, (inner, (x₀, (x₁, (length fs, (x₃, (x₄, (x₅, tt)))))))) (sval s ∷ [], (vint w64 inner ∷ [], (m₀ ∷ [], (m₁ ∷ [], (vint w64 (length fs) ∷ [], (m₃ ∷ [], (m₄ ∷ [], (m₅ ∷ [], tt))))))))) ∷ [])) (Due 𝓤 H A at-mem run .pre to-due)
-  goes-due = qed W ((‵ (flft κ₀ q₀) ⊛ ‵ (flft κ₁ q₁) ⊛ ‵ (flft κ₃ q₃) ⊛ ‵ (flft κ₄ q₄) ⊛ ‵ (flft κ₅ q₅) ⊛ ‵ ftrue) ∷ ‵ (owns (S.the-row ∷ u64 ∷ ShrSlice (named 0) κ₀ u8 ∷ ShrSlice (named 1) κ₁ u8 ∷ usize ∷ MutSlice (named 2) κ₃ u8 ∷ MutSlice (named 3) κ₄ u64 ∷ MutSlice (named 4) κ₅ u64 ∷ []) (s, (inner, (x₀, (x₁, (length fs, (x₃, (x₄, (x₅, tt)))))))) (sval s ∷ [], (vint w64 inner ∷ [], (m₀ ∷ [], (m₁ ∷ [], (vint w64 (length fs) ∷ [], (m₃ ∷ [], (m₄ ∷ [], (m₅ ∷ [], tt))))))))) ∷ []) ∵ join ! $ frame ! $ done !
+  goes-due : ent 𝓤 (⋆ 𝓤 H A ((‵ (flft κ₀ q₀) ⊛ ‵ (flft κ₁ q₁) ⊛ ‵ (flft κ₃ q₃) ⊛ ‵ (flft κ₄ q₄) ⊛ ‵ (flft κ₅ q₅) ⊛ ‵ ftrue) ∷ ‵ (owns (S.the-row ∷ u64 ∷ u64 ∷ ShrSlice (named 0) κ₀ u8 ∷ ShrSlice (named 1) κ₁ u8 ∷ usize ∷ MutSlice (named 2) κ₃ u8 ∷ MutSlice (named 3) κ₄ u64 ∷ MutSlice (named 4) κ₅ u64 ∷ []) (s, (era, (inner, (x₀, (x₁, (length fs, (x₃, (x₄, (x₅, tt))))))))) (sval s ∷ [], (vint w64 era ∷ [], (vint w64 inner ∷ [], (m₀ ∷ [], (m₁ ∷ [], (vint w64 (length fs) ∷ [], (m₃ ∷ [], (m₄ ∷ [], (m₅ ∷ [], tt)))))))))) ∷ [])) (Due 𝓤 H A at-mem run .pre to-due)
+  goes-due = qed W ((‵ (flft κ₀ q₀) ⊛ ‵ (flft κ₁ q₁) ⊛ ‵ (flft κ₃ q₃) ⊛ ‵ (flft κ₄ q₄) ⊛ ‵ (flft κ₅ q₅) ⊛ ‵ ftrue) ∷ ‵ (owns (S.the-row ∷ u64 ∷ u64 ∷ ShrSlice (named 0) κ₀ u8 ∷ ShrSlice (named 1) κ₁ u8 ∷ usize ∷ MutSlice (named 2) κ₃ u8 ∷ MutSlice (named 3) κ₄ u64 ∷ MutSlice (named 4) κ₅ u64 ∷ []) (s, (era, (inner, (x₀, (x₁, (length fs, (x₃, (x₄, (x₅, tt))))))))) (sval s ∷ [], (vint w64 era ∷ [], (vint w64 inner ∷ [], (m₀ ∷ [], (m₁ ∷ [], (vint w64 (length fs) ∷ [], (m₃ ∷ [], (m₄ ∷ [], (m₅ ∷ [], tt)))))))))) ∷ []) ∵ join ! $ frame ! $ done !
 
   abbrev to-log : Answered → Log 𝓤 H A at-mem run .Ghost
   to-log r = ((tt, tt, tt, (r, tt), (bval r ∷ [], tt)), tt)
@@ -272,9 +274,9 @@ module _ {M : Type 1} (𝓤 : URA M) (H : Heap 𝓤) (A : Atoms 𝓤) (W : Given
   goes-write g = qed W ((‵ (flft κ₂ q₂) ⊛ ‵ ftrue) ∷ ‵ (owns (MutSlice (named 0) κ₂ R ∷ F.the-row ∷ []) (x₂, (g, tt)) (m₂ ∷ [], (fval g ∷ [], tt))) ∷ []) ∵ join ! $ frame ! $ done !
 
   module _ (C : Calls 𝓤 H) (Λ : Loops 𝓤 H) (fm : FmC 𝓤 H (W .laws) C) (known-due : Triple 𝓤 (C #host·process-faults) (Due 𝓤 H A at-mem run)) (known-log : Triple 𝓤 (C #host·faults-of) (Log 𝓤 H A at-mem run)) (known-taken : Triple 𝓤 (C #host·processed-of) (Taken 𝓤 H A at-mem run)) (known-write : Triple 𝓤 (C #host·write-faults) (Write 𝓤 H A at-mem run)) where
-    walk : ent 𝓤 (onEntry 𝓤 H A f.signature (κ₀, (κ₁, (κ₂, (κ₃, (κ₄, (κ₅, tt)))))) (q₀, (q₁, (q₂, (q₃, (q₄, (q₅, tt)))))) a at) (WpFn 𝓤 H C Λ code.function (sval s ∷ vint w64 inner ∷ m₀ ∷ m₁ ∷ m₂ ∷ m₃ ∷ m₄ ∷ m₅ ∷ []) Post)
+    walk : ent 𝓤 (onEntry 𝓤 H A f.signature (κ₀, (κ₁, (κ₂, (κ₃, (κ₄, (κ₅, tt)))))) (q₀, (q₁, (q₂, (q₃, (q₄, (q₅, tt)))))) a at) (WpFn 𝓤 H C Λ code.function (sval s ∷ vint w64 era ∷ vint w64 inner ∷ m₀ ∷ m₁ ∷ m₂ ∷ m₃ ∷ m₄ ∷ m₅ ∷ []) Post)
     walk =
-        qed W ((‵ (flft κ₀ q₀) ⊛ ‵ (flft κ₁ q₁) ⊛ ‵ (flft κ₂ q₂) ⊛ ‵ (flft κ₃ q₃) ⊛ ‵ (flft κ₄ q₄) ⊛ ‵ (flft κ₅ q₅) ⊛ ‵ ftrue) ∷ ‵ (owns (S.the-row ∷ u64 ∷ ShrSlice (named 0) κ₀ u8 ∷ ShrSlice (named 1) κ₁ u8 ∷ MutSlice (named 2) κ₂ R ∷ MutSlice (named 3) κ₃ u8 ∷ MutSlice (named 4) κ₄ u64 ∷ MutSlice (named 5) κ₅ u64 ∷ []) a at) ∷ []) ∵ enter ! C Λ code.function (sval s ∷ vint w64 inner ∷ m₀ ∷ m₁ ∷ m₂ ∷ m₃ ∷ m₄ ∷ m₅ ∷ []) _ $
+        qed W ((‵ (flft κ₀ q₀) ⊛ ‵ (flft κ₁ q₁) ⊛ ‵ (flft κ₂ q₂) ⊛ ‵ (flft κ₃ q₃) ⊛ ‵ (flft κ₄ q₄) ⊛ ‵ (flft κ₅ q₅) ⊛ ‵ ftrue) ∷ ‵ (owns (S.the-row ∷ u64 ∷ u64 ∷ ShrSlice (named 0) κ₀ u8 ∷ ShrSlice (named 1) κ₁ u8 ∷ MutSlice (named 2) κ₂ R ∷ MutSlice (named 3) κ₃ u8 ∷ MutSlice (named 4) κ₄ u64 ∷ MutSlice (named 5) κ₅ u64 ∷ []) a at) ∷ []) ∵ enter ! C Λ code.function (sval s ∷ vint w64 era ∷ vint w64 inner ∷ m₀ ∷ m₁ ∷ m₂ ∷ m₃ ∷ m₄ ∷ m₅ ∷ []) _ $
         alloc1 ! (λ l₀.
         alloc1 ! (λ l₁.
         alloc1 ! (λ l₂.
@@ -296,8 +298,9 @@ module _ {M : Type 1} (𝓤 : URA M) (H : Heap 𝓤) (A : Atoms 𝓤) (W : Given
         alloc1 ! (λ l₁₈.
         alloc1 ! (λ l₁₉.
         alloc1 ! (λ l₂₀.
+        alloc1 ! (λ l₂₁.
         alloc0 ! $ params1 ! $
-        pass1 ! (init ! 38 refl (LL.lawful S.the-type S′.the-laws 𝓤 H A W .typed s _ gs .0)) $ pass1 ! (init ! 36 refl (tt, record { fits = gi })) $
+        pass1 ! (init ! 40 refl (LL.lawful S.the-type S′.the-laws 𝓤 H A W .typed s _ gs .0)) $ pass1 ! (init ! 38 refl (tt, record { fits = ge })) $ pass1 ! (init ! 36 refl (tt, record { fits = gi })) $
         pass1 ! (init ! 34 refl (tt, (tt, (record { fits = r₀ .0 }, tt)))) $
         pass1 ! (init ! 32 refl (tt, (tt, (record { fits = r₁ .0 }, tt)))) $
         pass1 ! (init ! 30 refl (tt, (tt, (record { fits = r₂ .0 }, tt)))) $
@@ -306,7 +309,7 @@ module _ {M : Type 1} (𝓤 : URA M) (H : Heap 𝓤) (A : Atoms 𝓤) (W : Given
         pass1 ! (init ! 24 refl (tt, (tt, (record { fits = r₅ .0 }, tt)))) $
         pass0 ! $
         -- each parameter's own, each token
-        move ! (43 ∷ []) $
+        move ! (45 ∷ []) $
         fsplit ! $
         move ! (1 ∷ []) $
         fsplit ! $
@@ -322,11 +325,15 @@ module _ {M : Type 1} (𝓤 : URA M) (H : Heap 𝓤) (A : Atoms 𝓤) (W : Given
         fsplit ! $
         move ! (1 ∷ []) $
         fsplit ! $
+        move ! (1 ∷ []) $
+        fsplit ! $
+        move ! (9 ∷ []) $
+        drop ! $
         move ! (8 ∷ []) $
         drop ! $
         move ! (7 ∷ []) $
         drop ! $
-        move ! (49 ∷ []) $
+        move ! (51 ∷ []) $
         split ! $
         move ! (1 ∷ []) $
         split ! $
@@ -378,18 +385,22 @@ module _ {M : Type 1} (𝓤 : URA M) (H : Heap 𝓤) (A : Atoms 𝓤) (W : Given
         fjoin ! $
         owned ! u64 (Is u64) (uint-makes 𝓤 H A W w64) inner _ (refl, gi) $
         fjoin ! $
+        owned ! u64 (Is u64) (uint-makes 𝓤 H A W w64) era _ (refl, ge) $
+        fjoin ! $
         owned ! S.the-row (Is S.the-row) ((LL.makes S.the-type S′.the-plain) 𝓤 H A) s _ gs $
         fjoin ! $
         move ! (1 ∷ 0 ∷ []) $
         use2 W (raw (Due 𝓤 H A at-mem run .pre to-due)) goes-due $
-        calls-at ! fm (Due 𝓤 H A at-mem run) known-due to-due (and-then ! (load ! (from ! (stop !)) (look ! 45 refl)) (and-then ! (load ! (from ! (stop !)) (look ! 43 refl)) (and-then ! (load ! (from ! (stop !)) (look ! 41 refl)) (and-then ! (load ! (from ! (stop !)) (look ! 39 refl)) (and-then ! (load ! (from ! (stop !)) (look ! 29 refl)) (and-then ! (load ! (from ! (stop !)) (look ! 21 refl)) (and-then ! (load ! (from ! (stop !)) (look ! 17 refl)) (and-then ! (load ! (from ! (stop !)) (look ! 13 refl)) (no-more !))))))))) (λ v₁.
-        use1 W (later (some (λ (r : Answered). ((‵ (flft κ₀ q₀) ⊛ ‵ (flft κ₁ q₁) ⊛ ‵ (flft κ₃ q₃) ⊛ ‵ (flft κ₄ q₄) ⊛ ‵ (flft κ₅ q₅) ⊛ ‵ ftrue) ⊛ ‵ (B.the-row .own r (v₁ ∷ []))) ⊛ raw (ensured 𝓤 H A due.ended (due.clauses 𝓤 H A at-mem run) (κ₀, (κ₁, (κ₃, (κ₄, (κ₅, tt))))) (s, (inner, (x₀, (x₁, (length fs, (x₃, (x₄, (x₅, tt)))))))) tt r)))) (id⊢ 𝓤 _) $ await ! tt $ pick ! (λ r.
+        calls-at ! fm (Due 𝓤 H A at-mem run) known-due to-due (and-then ! (load ! (from ! (stop !)) (look ! 47 refl)) (and-then ! (load ! (from ! (stop !)) (look ! 45 refl)) (and-then ! (load ! (from ! (stop !)) (look ! 43 refl)) (and-then ! (load ! (from ! (stop !)) (look ! 41 refl)) (and-then ! (load ! (from ! (stop !)) (look ! 39 refl)) (and-then ! (load ! (from ! (stop !)) (look ! 29 refl)) (and-then ! (load ! (from ! (stop !)) (look ! 21 refl)) (and-then ! (load ! (from ! (stop !)) (look ! 17 refl)) (and-then ! (load ! (from ! (stop !)) (look ! 13 refl)) (no-more !)))))))))) (λ v₁.
+        use1 W (later (some (λ (r : Answered). ((‵ (flft κ₀ q₀) ⊛ ‵ (flft κ₁ q₁) ⊛ ‵ (flft κ₃ q₃) ⊛ ‵ (flft κ₄ q₄) ⊛ ‵ (flft κ₅ q₅) ⊛ ‵ ftrue) ⊛ ‵ (B.the-row .own r (v₁ ∷ []))) ⊛ raw (ensured 𝓤 H A due.ended (due.clauses 𝓤 H A at-mem run) (κ₀, (κ₁, (κ₃, (κ₄, (κ₅, tt))))) (s, (era, (inner, (x₀, (x₁, (length fs, (x₃, (x₄, (x₅, tt))))))))) tt r)))) (id⊢ 𝓤 _) $ await ! tt $ pick ! (λ r.
         split ! $
         move ! (1 ∷ []) $
-        use1 W (some (λ (us : Unit {0} × (Unit {0} × (Unit {0} × (Unit {0} × (Unit {0} × (List ℕ × (List ℕ × (List ℕ × Unit {0})))))))). ‵ (lasts due.ended (κ₀, (κ₁, (κ₃, (κ₄, (κ₅, tt))))) (s, (inner, (x₀, (x₁, (length fs, (x₃, (x₄, (x₅, tt)))))))) us) ⊛ raw (fact 𝓤 (DueSaid r (us .1 .1 .1 .1 .1 .0) (us .1 .1 .1 .1 .1 .1 .0) (us .1 .1 .1 .1 .1 .1 .1 .0))))) (id⊢ 𝓤 _) $ pick ! (λ us.
+        use1 W (some (λ (us : Unit {0} × (Unit {0} × (Unit {0} × (Unit {0} × (Unit {0} × (Unit {0} × (List ℕ × (List ℕ × (List ℕ × Unit {0}))))))))). ‵ (lasts due.ended (κ₀, (κ₁, (κ₃, (κ₄, (κ₅, tt))))) (s, (era, (inner, (x₀, (x₁, (length fs, (x₃, (x₄, (x₅, tt))))))))) us) ⊛ raw (fact 𝓤 (DueSaid r (us .1 .1 .1 .1 .1 .1 .0) (us .1 .1 .1 .1 .1 .1 .1 .0) (us .1 .1 .1 .1 .1 .1 .1 .1 .0))))) (id⊢ 𝓤 _) $ pick ! (λ us.
         split ! $
         move ! (1 ∷ []) $
-        heard ! (DueSaid r (us .1 .1 .1 .1 .1 .0) (us .1 .1 .1 .1 .1 .1 .0) (us .1 .1 .1 .1 .1 .1 .1 .0)) (λ e₁.
+        heard ! (DueSaid r (us .1 .1 .1 .1 .1 .1 .0) (us .1 .1 .1 .1 .1 .1 .1 .0) (us .1 .1 .1 .1 .1 .1 .1 .1 .0)) (λ e₁.
+        fsplit ! $
+        drop ! $
         fsplit ! $
         drop ! $
         fsplit ! $
@@ -421,7 +432,7 @@ module _ {M : Type 1} (𝓤 : URA M) (H : Heap 𝓤) (A : Atoms 𝓤) (W : Given
         move ! (1 ∷ []) $
         peeks ! B.the-row (Is B.the-row) (shows 𝓤 H A B.the-row) r (v₁ ∷ []) (λ is.
         land ! (from ! (stop !)) (init ! 31 {τ = B′.mir} refl (LL.lawful B.the-type B′.the-laws 𝓤 H A W .typed r _ is .0)) $
-        rewrite ! 31 (λ (u : Val). ‵ (fat fullShare B′.mir l₁₀ 0 u)) (ap only (LL.tells B.the-type B′.the-laws r (v₁ ∷ []) is)) refl $
+        rewrite ! 31 (λ (u : Val). ‵ (fat fullShare B′.mir l₁₁ 0 u)) (ap only (LL.tells B.the-type B′.the-laws r (v₁ ∷ []) is)) refl $
         drop ! $
         -- its faults
         nothing ! $
@@ -435,7 +446,7 @@ module _ {M : Type 1} (𝓤 : URA M) (H : Heap 𝓤) (A : Atoms 𝓤) (W : Given
         move ! (1 ∷ []) $
         peeks ! F.the-row (Is F.the-row) (shows 𝓤 H A F.the-row) g (v₂ ∷ []) (λ ig.
         land ! (from ! (stop !)) (init ! 30 {τ = F′.mir} refl (LL.lawful F.the-type F′.the-laws 𝓤 H A W .typed g _ ig .0)) $
-        rewrite ! 30 (λ (u : Val). ‵ (fat fullShare F′.mir l₁₁ 0 u)) (ap only (LL.tells F.the-type F′.the-laws g (v₂ ∷ []) ig)) refl $
+        rewrite ! 30 (λ (u : Val). ‵ (fat fullShare F′.mir l₁₂ 0 u)) (ap only (LL.tells F.the-type F′.the-laws g (v₂ ∷ []) ig)) refl $
         drop ! $
         drop ! $
         -- are written
@@ -484,10 +495,11 @@ module _ {M : Type 1} (𝓤 : URA M) (H : Heap 𝓤) (A : Atoms 𝓤) (W : Given
         split ! $
         move ! (1 ∷ []) $
         peeks ! P.the-row (Is P.the-row) (shows 𝓤 H A P.the-row) p (v₄ ∷ []) (λ ip.
-        land ! (from ! (stop !)) (init ! 52 {τ = P′.mir} refl (LL.lawful P.the-type P′.the-laws 𝓤 H A W .typed p _ ip .0)) $
+        land ! (from ! (stop !)) (init ! 54 {τ = P′.mir} refl (LL.lawful P.the-type P′.the-laws 𝓤 H A W .typed p _ ip .0)) $
         drop ! $
         drop ! $
-        returns ! (look ! 50 refl) $
+        returns ! (look ! 52 refl) $
+        forget ! 52 refl $
         forget ! 50 refl $
         forget ! 48 refl $
         forget ! 46 refl $
@@ -509,6 +521,8 @@ module _ {M : Type 1} (𝓤 : URA M) (H : Heap 𝓤) (A : Atoms 𝓤) (W : Given
         forget ! 14 refl $
         forget ! 12 refl $
         forget ! 10 refl $
+        move ! (52 ∷ 53 ∷ []) $
+        free1 ! $
         move ! (50 ∷ 51 ∷ []) $
         free1 ! $
         move ! (48 ∷ 49 ∷ []) $
@@ -563,20 +577,20 @@ module _ {M : Type 1} (𝓤 : URA M) (H : Heap 𝓤) (A : Atoms 𝓤) (W : Given
         move ! (1 ∷ []) $
         split ! $
         keep ! (5 ∷ 4 ∷ 6 ∷ 3 ∷ 2 ∷ 0 ∷ 12 ∷ 11 ∷ 7 ∷ 10 ∷ 9 ∷ 8 ∷ []) $
-        by ! (exits p v₄ ip (ws .0) (us .1 .1 .1 .1 .1 .0) (us .1 .1 .1 .1 .1 .1 .0) (us .1 .1 .1 .1 .1 .1 .1 .0) n₂ n₃ n₄ n₅ (said r g p (ws .0) (us .1 .1 .1 .1 .1 .0) (us .1 .1 .1 .1 .1 .1 .0) (us .1 .1 .1 .1 .1 .1 .1 .0) e₁ e₂ e₃ e₄)))))))))))))))))))))))))))))))))))))))))))))
+        by ! (exits p v₄ ip (ws .0) (us .1 .1 .1 .1 .1 .1 .0) (us .1 .1 .1 .1 .1 .1 .1 .0) (us .1 .1 .1 .1 .1 .1 .1 .1 .0) n₂ n₃ n₄ n₅ (said r g p (ws .0) (us .1 .1 .1 .1 .1 .1 .0) (us .1 .1 .1 .1 .1 .1 .1 .0) (us .1 .1 .1 .1 .1 .1 .1 .1 .0) e₁ e₂ e₃ e₄))))))))))))))))))))))))))))))))))))))))))))))
 
 module _ {M : Type 1} (𝓤 : URA M) (H : Heap 𝓤) (A : Atoms 𝓤) (W : Given 𝓤 H A) (at-mem : Memory → SProp 𝓤) (run : Routine → Fun 𝓤) (𝓣 : Tables 𝓤 H) (known-due : Triple 𝓤 (𝓣 .C #host·process-faults) (Due 𝓤 H A at-mem run)) (known-log : Triple 𝓤 (𝓣 .C #host·faults-of) (Log 𝓤 H A at-mem run)) (known-taken : Triple 𝓤 (𝓣 .C #host·processed-of) (Taken 𝓤 H A at-mem run)) (known-write : Triple 𝓤 (𝓣 .C #host·write-faults) (Write 𝓤 H A at-mem run)) where
   walks : Walks 𝓤 H A f.ended stayed (WpFn 𝓤 H (𝓣 .C) (𝓣 .Λ) code.function) (f.clauses 𝓤 H A at-mem run)
   walks = walked 𝓤 H A f.ended stayed (f.clauses 𝓤 H A at-mem run) (WpFn 𝓤 H (𝓣 .C) (𝓣 .Λ) code.function)
-      (λ κs. (LL.vals S.the-type S′.the-laws, (uint-vals w64, (slice-vals, (slice-vals, (slice-vals, (slice-vals, (slice-vals, (slice-vals, tt)))))))))
-      (λ κs. (LL.tells S.the-type S′.the-laws, (uint-tells w64, (shr-slice-tells (named 0) (κs .0) u8, (shr-slice-tells (named 1) (κs .1 .0) u8, (mut-slice-tells (named 2) (κs .1 .1 .0) R, (mut-slice-tells (named 3) (κs .1 .1 .1 .0) u8, (mut-slice-tells (named 4) (κs .1 .1 .1 .1 .0) u64, (mut-slice-tells (named 5) (κs .1 .1 .1 .1 .1 .0) u64, tt)))))))))
+      (λ κs. (LL.vals S.the-type S′.the-laws, (uint-vals w64, (uint-vals w64, (slice-vals, (slice-vals, (slice-vals, (slice-vals, (slice-vals, (slice-vals, tt))))))))))
+      (λ κs. (LL.tells S.the-type S′.the-laws, (uint-tells w64, (uint-tells w64, (shr-slice-tells (named 0) (κs .0) u8, (shr-slice-tells (named 1) (κs .1 .0) u8, (mut-slice-tells (named 2) (κs .1 .1 .0) R, (mut-slice-tells (named 3) (κs .1 .1 .1 .0) u8, (mut-slice-tells (named 4) (κs .1 .1 .1 .1 .0) u64, (mut-slice-tells (named 5) (κs .1 .1 .1 .1 .1 .0) u64, tt))))))))))
       (λ κs qs bounds a g are. via 𝓤 _ (fst∗ 𝓤 _ (emp 𝓤))
-      (walk 𝓤 H A W at-mem run (κs .0) (κs .1 .0) (κs .1 .1 .0) (κs .1 .1 .1 .0) (κs .1 .1 .1 .1 .0) (κs .1 .1 .1 .1 .1 .0) (qs .0) (qs .1 .0) (qs .1 .1 .0) (qs .1 .1 .1 .0) (qs .1 .1 .1 .1 .0) (qs .1 .1 .1 .1 .1 .0) (a .1 .1 .0 .ptr .0) (a .1 .1 .1 .0 .ptr .0) (a .1 .1 .1 .1 .0 .ptr .0) (a .1 .1 .1 .1 .1 .0 .ptr .0) (a .1 .1 .1 .1 .1 .1 .0 .ptr .0) (a .1 .1 .1 .1 .1 .1 .1 .0 .ptr .0) (a .1 .1 .0 .ptr .1) (a .1 .1 .1 .0 .ptr .1) (a .1 .1 .1 .1 .0 .ptr .1) (a .1 .1 .1 .1 .1 .0 .ptr .1) (a .1 .1 .1 .1 .1 .1 .0 .ptr .1) (a .1 .1 .1 .1 .1 .1 .1 .0 .ptr .1) (a .1 .1 .0 .name) (a .1 .1 .1 .0 .name) (a .1 .1 .1 .1 .0 .name) (a .1 .1 .1 .1 .1 .0 .name) (a .1 .1 .1 .1 .1 .1 .0 .name) (a .1 .1 .1 .1 .1 .1 .1 .0 .name) (a .1 .1 .0 .now) (a .1 .1 .1 .0 .now) (a .1 .1 .1 .1 .0 .now) (a .1 .1 .1 .1 .1 .0 .now) (a .1 .1 .1 .1 .1 .1 .0 .now) (a .1 .1 .1 .1 .1 .1 .1 .0 .now) (are .1 .1 .0 .0 .1) (are .1 .1 .1 .0 .0 .1) (are .1 .1 .1 .1 .0 .0 .1) (are .1 .1 .1 .1 .1 .0 .0 .1) (are .1 .1 .1 .1 .1 .1 .0 .0 .1) (are .1 .1 .1 .1 .1 .1 .1 .0 .0 .1) (a .0) (a .1 .0) (are .0) (are .1 .0 .1)
+      (walk 𝓤 H A W at-mem run (κs .0) (κs .1 .0) (κs .1 .1 .0) (κs .1 .1 .1 .0) (κs .1 .1 .1 .1 .0) (κs .1 .1 .1 .1 .1 .0) (qs .0) (qs .1 .0) (qs .1 .1 .0) (qs .1 .1 .1 .0) (qs .1 .1 .1 .1 .0) (qs .1 .1 .1 .1 .1 .0) (a .1 .1 .1 .0 .ptr .0) (a .1 .1 .1 .1 .0 .ptr .0) (a .1 .1 .1 .1 .1 .0 .ptr .0) (a .1 .1 .1 .1 .1 .1 .0 .ptr .0) (a .1 .1 .1 .1 .1 .1 .1 .0 .ptr .0) (a .1 .1 .1 .1 .1 .1 .1 .1 .0 .ptr .0) (a .1 .1 .1 .0 .ptr .1) (a .1 .1 .1 .1 .0 .ptr .1) (a .1 .1 .1 .1 .1 .0 .ptr .1) (a .1 .1 .1 .1 .1 .1 .0 .ptr .1) (a .1 .1 .1 .1 .1 .1 .1 .0 .ptr .1) (a .1 .1 .1 .1 .1 .1 .1 .1 .0 .ptr .1) (a .1 .1 .1 .0 .name) (a .1 .1 .1 .1 .0 .name) (a .1 .1 .1 .1 .1 .0 .name) (a .1 .1 .1 .1 .1 .1 .0 .name) (a .1 .1 .1 .1 .1 .1 .1 .0 .name) (a .1 .1 .1 .1 .1 .1 .1 .1 .0 .name) (a .1 .1 .1 .0 .now) (a .1 .1 .1 .1 .0 .now) (a .1 .1 .1 .1 .1 .0 .now) (a .1 .1 .1 .1 .1 .1 .0 .now) (a .1 .1 .1 .1 .1 .1 .1 .0 .now) (a .1 .1 .1 .1 .1 .1 .1 .1 .0 .now) (are .1 .1 .1 .0 .0 .1) (are .1 .1 .1 .1 .0 .0 .1) (are .1 .1 .1 .1 .1 .0 .0 .1) (are .1 .1 .1 .1 .1 .1 .0 .0 .1) (are .1 .1 .1 .1 .1 .1 .1 .0 .0 .1) (are .1 .1 .1 .1 .1 .1 .1 .1 .0 .0 .1) (a .0) (a .1 .0) (a .1 .1 .0) (are .0) (are .1 .0 .1) (are .1 .1 .0 .1)
       (𝓣 .C) (𝓣 .Λ) (fmOf 𝓤 H (W .laws) 𝓣) known-due known-log known-taken known-write))
 
   meets : Meets 𝓤 H A f.signature (WpFn 𝓤 H (𝓣 .C) (𝓣 .Λ) code.function) (f.spec 𝓤 H A at-mem run)
   meets = walk-meets 𝓤 H A f.ended stayed W
-      (goes-none 𝓤 H A W 6 (λ _. S.the-row) yes (λ κs x f. refl), (goes-none 𝓤 H A W 6 (λ _. u64) yes (λ κs x f. refl), (goes-none-slice 𝓤 H A W 6 (0 ∷ []) tt (plain (λ _. u8)) yes, (goes-none-slice 𝓤 H A W 6 (1 ∷ []) tt (plain (λ _. u8)) yes, (goes-gave-slice 𝓤 H A W 6 2 tt (plain (λ _. R)), (goes-gave-slice 𝓤 H A W 6 3 tt (plain (λ _. u8)), (goes-gave-slice 𝓤 H A W 6 4 tt (plain (λ _. u64)), (goes-gave-slice 𝓤 H A W 6 5 tt (plain (λ _. u64)), tt))))))))
+      (goes-none 𝓤 H A W 6 (λ _. S.the-row) yes (λ κs x f. refl), (goes-none 𝓤 H A W 6 (λ _. u64) yes (λ κs x f. refl), (goes-none 𝓤 H A W 6 (λ _. u64) yes (λ κs x f. refl), (goes-none-slice 𝓤 H A W 6 (0 ∷ []) tt (plain (λ _. u8)) yes, (goes-none-slice 𝓤 H A W 6 (1 ∷ []) tt (plain (λ _. u8)) yes, (goes-gave-slice 𝓤 H A W 6 2 tt (plain (λ _. R)), (goes-gave-slice 𝓤 H A W 6 3 tt (plain (λ _. u8)), (goes-gave-slice 𝓤 H A W 6 4 tt (plain (λ _. u64)), (goes-gave-slice 𝓤 H A W 6 5 tt (plain (λ _. u64)), tt)))))))))
       (f.clauses 𝓤 H A at-mem run) (WpFn 𝓤 H (𝓣 .C) (𝓣 .Λ) code.function) (WpFn-mono 𝓤 H (W .laws) 𝓣 code.function) walks
 
 pub process-batch-records-spec : {M : Type 1} → stated.statement M

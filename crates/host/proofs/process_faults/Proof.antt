@@ -52,7 +52,7 @@ returns c =
     let k = c .before .before .before .before .before .before .before .before .before .before .before .before .before .before .before .before .before .shorter-of in
     let zeros : List ℕ = replicate (base .faults) 0 in
     let within : k .result ≤ length zeros = omega (arith, k .ensures, shorter-le (a .fault-places) (base .faults), length-replicate {A = ℕ} (base .faults) 0) in
-    faults-done (a .state) (a .inner) (now (a .batch)) (now (a .verdicts)) (k .result) (a .fault-places) zeros zeros (dues (now (a .due-kinds)) (now (a .due-indices)) (now (a .due-eras))) (record { processed = r .result; faults = c .paired .result }) _ _ (dues _ _ _)
+    faults-done (a .state) (a .batch-era) (a .inner) (now (a .batch)) (now (a .verdicts)) (k .result) (a .fault-places) zeros zeros (dues (now (a .due-kinds)) (now (a .due-indices)) (now (a .due-eras))) (record { processed = r .result; faults = c .paired .result }) _ _ (dues _ _ _)
     (k .ensures) within within (r .ensures) (c .paired .ensures)
 
 pub process-faults-spec : {M : Type 1} → statement M

@@ -48,7 +48,7 @@ returns c =
     let r = c .before .before .before .before .before .before .before .before .before .before .process-batch in
     let m : a .places ≤ length (now (a .ids)) = c .before .before .before .before .before .before .before .before .before .before .before .before .before .before .before .before .before .before .before .before .before .before .before .pre .0 in
     let n : a .places ≤ length (now (a .kinds)) = c .before .before .before .before .before .before .before .before .before .before .before .before .before .before .before .before .before .before .before .before .before .before .before .pre .1 in
-    first-done (a .state) (a .inner) (now (a .batch)) (now (a .verdicts)) (a .places) (now (a .ids)) (now (a .kinds)) (dues (now (a .due-kinds)) (now (a .due-indices)) (now (a .due-eras))) (r .result) _ _ _ _ (dues _ _ _) m n (r .ensures)
+    first-done (a .state) (a .batch-era) (a .inner) (now (a .batch)) (now (a .verdicts)) (a .places) (now (a .ids)) (now (a .kinds)) (dues (now (a .due-kinds)) (now (a .due-indices)) (now (a .due-eras))) (r .result) _ _ _ _ (dues _ _ _) m n (r .ensures)
 
 pub process-first-spec : {M : Type 1} → statement M
 process-first-spec =

@@ -12,6 +12,7 @@ use Rattle.dynamic_honey_badger.specs.State.{stateOf}
 use Rattle.commit.specs.Batch.{Lists as Own}
 use Rattle.process_output.specs.Opening.{callOf}
 use Rattle.process_output.specs.Process.{BatchCall}
+use Rattle.process_batch.specs.Answer.{lastBy}
 use Rattle.process_batch.specs.Lent.{Lists, lentCall}
 use Rattle.process_batch.specs.Worked.{WorkedAs, Concluded}
 use Rattle.process_batch.proofs.DoneLaws.{answered-as, answered-keeps, faults-filled, due-filled, few-told, partsIn}
@@ -100,43 +101,48 @@ same-length-5 c = search needs
 abbrev zeros : Own
 zeros = record { ids = replicate (base .faults) 0; kinds = replicate (base .faults) 0; indices = replicate (base .due) 0 }
 
+last-after-requires : tie.Need-last-after-requires
+last-after-requires c κs = search needs
+
 returns : tie.Need-returns
 returns c =
-    let a = c .before .before .before .before .before .before .before .before .before .before .before .before .before .before .before .before .before .before .before .before .before .before .before .before .before .before .before .before .before .before .before .before .before .before .before .before .before .before .before .before .before .before .before .before .before .before .before .before .before .before .before .before .before .args in
+    let a = c .before .before .before .before .before .before .before .before .before .before .before .before .before .before .before .before .before .before .before .before .before .before .before .before .before .before .before .before .before .before .before .before .before .before .before .before .before .before .before .before .before .before .before .before .before .before .before .before .before .before .before .before .before .before .before .args in
     let s = a .state in
     let l : Lists = record { fault-ids = now (a .fault-ids); fault-kinds = now (a .fault-kinds); due-kinds = now (a .due-kinds); due-indices = now (a .due-indices); due-eras = now (a .due-eras) } in
-    let b = lentCall (a .inner) (now (a .batch)) (now (a .verdicts)) l in
-    let k = c .before .before .before .before .before .before .before .before .before .before .before .before .before .before .before .before .before .before .before .before .before .before .before .before .before .before .before .before .before .before .before .before .work in
+    let b = lentCall (a .batch-era) (a .inner) (now (a .batch)) (now (a .verdicts)) l in
+    let k = c .before .before .before .before .before .before .before .before .before .before .before .before .before .before .before .before .before .before .before .before .before .before .before .before .before .before .before .before .before .before .before .before .before .before .work in
     let w = k .result in
-    let own : Own = record { ids = k .last .1 .1 .1 .1 .1 .1 .1 .1 .1 .0; kinds = k .last .1 .1 .1 .1 .1 .1 .1 .1 .1 .1 .0; indices = k .last .1 .1 .1 .1 .1 .1 .1 .1 .1 .1 .1 .0 } in
-    let places : callOf (a .inner) (now (a .batch)) (now (a .verdicts)) (c .before .before .before .before .before .before .before .before .before .before .before .before .before .before .before .before .before .before .before .before .before .before .before .before .before .before .before .before .before .before .before .before .before .before .before .before .before .before .before .before .before .before .before .before .before .shorter-of .result) (c .before .before .before .before .before .before .before .before .before .before .before .before .before .before .before .before .before .before .before .before .before .before .before .before .before .before .before .before .before .before .before .before .before .before .before .before .before .before .before .before .before .before .before .shorter-of3 .result) ≡ b
-    = λ j. callOf (a .inner) (now (a .batch)) (now (a .verdicts)) (c .before .before .before .before .before .before .before .before .before .before .before .before .before .before .before .before .before .before .before .before .before .before .before .before .before .before .before .before .before .before .before .before .before .before .before .before .before .before .before .before .before .before .before .before .before .shorter-of .ensures j)
-    ((c .before .before .before .before .before .before .before .before .before .before .before .before .before .before .before .before .before .before .before .before .before .before .before .before .before .before .before .before .before .before .before .before .before .before .before .before .before .before .before .before .before .before .before .shorter-of3 .ensures ∙ ap (λ (i : ℕ). shorter i (length (now (a .due-eras)))) (c .before .before .before .before .before .before .before .before .before .before .before .before .before .before .before .before .before .before .before .before .before .before .before .before .before .before .before .before .before .before .before .before .before .before .before .before .before .before .before .before .before .before .before .before .shorter-of2 .ensures)) j) in
-    let worked = subst (λ (y : BatchCall). WorkedAs y (s .«vote_counter» .era) (nodesOf (s .«vote_counter» .«pub_keys»)) (c .before .before .before .before .before .before .before .before .before .before .before .before .before .before .before .before .before .before .before .before .before .before .before .before .before .before .before .before .before .before .before .before .before .before .before .before .of .result) (s .«key_gen_state») w zeros own) places (k .ensures .0) in
-    let by = worked (stateOf s) refl refl refl (c .before .before .before .before .before .before .before .before .before .before .before .before .before .before .before .before .before .before .before .before .before .before .before .before .before .before .before .before .before .before .before .before .before .before .before .before .of .ensures .0) (c .before .before .before .before .before .before .before .before .before .before .before .before .before .before .before .before .before .before .before .before .before .before .before .before .before .before .before .before .before .before .before .before .before .before .before .before .of .ensures .1) in
-    let bytes : Bytes (now (a .batch)) = λ i. c .before .before .before .before .before .before .before .before .before .before .before .before .before .before .before .before .before .before .before .before .before .before .before .before .before .before .before .before .before .before .before .before .before .before .before .before .before .before .before .before .before .before .before .before .before .before .before .before .before .before .before .before .shared-slice-known .given i .fits in
+    let own : Own = record { ids = k .last .1 .1 .1 .1 .1 .1 .1 .1 .1 .1 .0; kinds = k .last .1 .1 .1 .1 .1 .1 .1 .1 .1 .1 .1 .0; indices = k .last .1 .1 .1 .1 .1 .1 .1 .1 .1 .1 .1 .1 .0 } in
+    let places : callOf (a .batch-era) (a .inner) (now (a .batch)) (now (a .verdicts)) (c .before .before .before .before .before .before .before .before .before .before .before .before .before .before .before .before .before .before .before .before .before .before .before .before .before .before .before .before .before .before .before .before .before .before .before .before .before .before .before .before .before .before .before .before .before .before .before .shorter-of .result) (c .before .before .before .before .before .before .before .before .before .before .before .before .before .before .before .before .before .before .before .before .before .before .before .before .before .before .before .before .before .before .before .before .before .before .before .before .before .before .before .before .before .before .before .before .before .shorter-of3 .result) ≡ b
+    = λ j. callOf (a .batch-era) (a .inner) (now (a .batch)) (now (a .verdicts)) (c .before .before .before .before .before .before .before .before .before .before .before .before .before .before .before .before .before .before .before .before .before .before .before .before .before .before .before .before .before .before .before .before .before .before .before .before .before .before .before .before .before .before .before .before .before .before .before .shorter-of .ensures j)
+    ((c .before .before .before .before .before .before .before .before .before .before .before .before .before .before .before .before .before .before .before .before .before .before .before .before .before .before .before .before .before .before .before .before .before .before .before .before .before .before .before .before .before .before .before .before .before .shorter-of3 .ensures ∙ ap (λ (i : ℕ). shorter i (length (now (a .due-eras)))) (c .before .before .before .before .before .before .before .before .before .before .before .before .before .before .before .before .before .before .before .before .before .before .before .before .before .before .before .before .before .before .before .before .before .before .before .before .before .before .before .before .before .before .before .before .before .before .shorter-of2 .ensures)) j) in
+    let worked = subst (λ (y : BatchCall). WorkedAs y (s .«vote_counter» .era) (nodesOf (s .«vote_counter» .«pub_keys»)) (c .before .before .before .before .before .before .before .before .before .before .before .before .before .before .before .before .before .before .before .before .before .before .before .before .before .before .before .before .before .before .before .before .before .before .before .before .before .before .of .result) (s .«key_gen_state») w zeros own) places (k .ensures .0) in
+    let by = worked (stateOf s) refl refl refl (c .before .before .before .before .before .before .before .before .before .before .before .before .before .before .before .before .before .before .before .before .before .before .before .before .before .before .before .before .before .before .before .before .before .before .before .before .before .before .of .ensures .0) (c .before .before .before .before .before .before .before .before .before .before .before .before .before .before .before .before .before .before .before .before .before .before .before .before .before .before .before .before .before .before .before .before .before .before .before .before .before .before .of .ensures .1) in
+    let bytes : Bytes (now (a .batch)) = λ i. c .before .before .before .before .before .before .before .before .before .before .before .before .before .before .before .before .before .before .before .before .before .before .before .before .before .before .before .before .before .before .before .before .before .before .before .before .before .before .before .before .before .before .before .before .before .before .before .before .before .before .before .before .before .before .shared-slice-known .given i .fits in
     let lens = length-replicate {A = ℕ} (base .faults) 0 in
     let lend = length-replicate {A = ℕ} (base .due) 0 in
-    let m : Moved s b w own (c .before .before .before .before .before .before .before .before .before .before .before .before .before .before .before .before .before .before .before .before .before .before .before .before .before .before .if1 .state) (c .before .before .before .before .before .before .before .before .before .before .before .before .before .before .before .before .before .before .before .before .before .before .before .before .before .before .if1 .told)
+    let m : Moved s b w own (c .before .before .before .before .before .before .before .before .before .before .before .before .before .before .before .before .before .before .before .before .before .before .before .before .before .before .before .before .if1 .state) (c .before .before .before .before .before .before .before .before .before .before .before .before .before .before .before .before .before .before .before .before .before .before .before .before .before .before .before .before .if1 .told)
     = ⊎-elim
-    (λ v. moved-to s b w own _ _ _ _ (moved-quiet s b bytes w zeros own lens lens lend (k .ensures .2) (k .ensures .3) (w .opening) by (c .before .before .before .before .before .before .before .before .before .before .before .before .before .before .before .before .before .before .before .before .before .before .before .before .before .before .before .is-quiet .ensures .0 (v .0 .taken))) (v .3) (v .4 ∙ c .before .before .before .before .before .before .before .before .before .before .before .before .before .before .before .before .before .before .before .before .before .before .before .before .before .before .before .before .quiet .ensures))
-    (λ v. moved-to s b w own _ _ _ _ (moved-settled s b bytes w zeros own lens lens lend (k .ensures .2) (k .ensures .3) (w .opening) by (c .before .before .before .before .before .before .before .before .before .before .before .before .before .before .before .before .before .before .before .before .before .before .before .before .before .before .before .is-quiet .ensures .1 (v .0 .left)) (v .4 .result) (subst (λ (n : ℕ). Concluded (now (a .batch)) (s .params) (s .«vote_counter») (s .«key_gen_state») n (w .committed) (v .4 .result)) (v .3 .ensures) (v .4 .ensures))) (v .9) (v .10))
-    (c .before .before .before .before .before .before .before .before .before .before .before .before .before .before .before .before .before .before .before .before .before .before .before .before .before .before .if1 .came) in
-    let u = c .before .before .before .before .before .before .before .before .before .before .before .before .before .before .before .before .before .before .before .before .before .before .before .before .before .before .if1 .state in
-    let t = c .before .before .before .before .before .before .before .before .before .before .before .before .before .before .before .before .before .before .before .before .before .before .before .before .before .before .if1 .told in
-    let v = c .before .before .before .before .before .before .before .before .before .before .before .before .before .before .before .before .before .before .before .before .before .before .before .before .if2 .state in
+    (λ v. moved-to s b w own _ _ _ _ (moved-quiet s b bytes w zeros own lens lens lend (k .ensures .2) (k .ensures .3) (w .opening) by (c .before .before .before .before .before .before .before .before .before .before .before .before .before .before .before .before .before .before .before .before .before .before .before .before .before .before .before .before .before .is-quiet .ensures .0 (v .0 .taken))) (v .3) (v .4 ∙ c .before .before .before .before .before .before .before .before .before .before .before .before .before .before .before .before .before .before .before .before .before .before .before .before .before .before .before .before .before .before .quiet .ensures))
+    (λ v. moved-to s b w own _ _ _ _ (moved-settled s b bytes w zeros own lens lens lend (k .ensures .2) (k .ensures .3) (w .opening) by (c .before .before .before .before .before .before .before .before .before .before .before .before .before .before .before .before .before .before .before .before .before .before .before .before .before .before .before .before .before .is-quiet .ensures .1 (v .0 .left)) (v .4 .result) (subst (λ (n : ℕ). Concluded (now (a .batch)) (s .params) (s .«vote_counter») (s .«key_gen_state») n (w .committed) (v .4 .result)) (v .3 .ensures) (v .4 .ensures))) (v .9) (v .10))
+    (c .before .before .before .before .before .before .before .before .before .before .before .before .before .before .before .before .before .before .before .before .before .before .before .before .before .before .before .before .if1 .came) in
+    let u = c .before .before .before .before .before .before .before .before .before .before .before .before .before .before .before .before .before .before .before .before .before .before .before .before .before .before .before .before .if1 .state in
+    let t = c .before .before .before .before .before .before .before .before .before .before .before .before .before .before .before .before .before .before .before .before .before .before .before .before .before .before .before .before .if1 .told in
+    let v = c .before .before .before .before .before .before .before .before .before .before .before .before .before .before .before .before .before .before .before .before .before .before .before .before .before .before .if2 .state in
     let q : Stored s u v t (m .kept)
     = ⊎-elim
-    (λ y. stored-changed s b w own u v t m _ (sym (c .before .before .before .before .before .before .before .before .before .before .before .before .before .before .before .before .before .before .before .before .before .before .before .before .before .stirs .ensures) ∙ y .0 .taken) (y .3 .result) (y .4) (y .3 .ensures))
-    (λ y. stored-same s b w own u v t m (sym (c .before .before .before .before .before .before .before .before .before .before .before .before .before .before .before .before .before .before .before .before .before .before .before .before .before .stirs .ensures) ∙ y .0 .left) (y .1))
-    (c .before .before .before .before .before .before .before .before .before .before .before .before .before .before .before .before .before .before .before .before .before .before .before .before .if2 .came) in
+    (λ y. stored-changed s b w own u v t m _ (sym (c .before .before .before .before .before .before .before .before .before .before .before .before .before .before .before .before .before .before .before .before .before .before .before .before .before .before .before .stirs .ensures) ∙ y .0 .taken) (y .3 .result) (y .4) (y .3 .ensures))
+    (λ y. stored-same s b w own u v t m (sym (c .before .before .before .before .before .before .before .before .before .before .before .before .before .before .before .before .before .before .before .before .before .before .before .before .before .before .before .stirs .ensures) ∙ y .0 .left) (y .1))
+    (c .before .before .before .before .before .before .before .before .before .before .before .before .before .before .before .before .before .before .before .before .before .before .before .before .before .before .if2 .came) in
+    let last = c .last-after .result in
+    let stamped = c .last-after .ensures ∙ ap (lastBy (t .report .outcome) (t .report .batch .epoch) (t .report .batch .era)) (q .same-last) in
     let r = stored-ran s b w own u v t m q in (
-      answered-as s v t (m .kept) (m .faults) (m .due) _ r (q .store) (q .same),
-      answered-keeps s v t (m .kept) (m .faults) (m .due) _ r (q .store) (q .same),
+      answered-as s v _ t (m .kept) (m .faults) (m .due) b r (q .store) (q .same) last stamped refl,
+      answered-keeps s v _ t (m .kept) (m .faults) (m .due) b r (q .store) (q .same) last stamped refl,
       r .no-recipe,
       (
-        faults-filled (partsIn v t) _ _ _ _ _ _ _ _ r (s .«vote_counter» .era) own (m .noted) _ _ _ _ (c .before .before .before .before .before .before .before .before .before .before .before .before .before .before .before .before .before .before .before .before .copy-ids .ensures) (c .before .before .before .before .before .before .before .before .before .before .before .before .before .before .before .copy-kinds .ensures),
-        due-filled (partsIn v t) _ _ _ _ _ _ _ _ r (s .«vote_counter» .era) own (m .noted) _ _ _ _ _ _ (c .before .before .before .before .before .before .before .before .write-due .ensures),
+        faults-filled (partsIn v t) _ _ _ _ _ _ _ _ r (s .«vote_counter» .era) own (m .noted) _ _ _ _ (c .before .before .before .before .before .before .before .before .before .before .before .before .before .before .before .before .before .before .before .before .before .before .copy-ids .ensures) (c .before .before .before .before .before .before .before .before .before .before .before .before .before .before .before .before .before .copy-kinds .ensures),
+        due-filled (partsIn v t) _ _ _ _ _ _ _ _ r (s .«vote_counter» .era) own (m .noted) _ _ _ _ _ _ (c .before .before .before .before .before .before .before .before .before .before .write-due .ensures),
       ),
       few-told (partsIn v t) _ _ _ _ _ _ _ _ r (m .few),
     )
@@ -165,6 +171,7 @@ process-batch-spec =
     copy-kinds-requires
     slice-aggregate-write-due
     write-due-requires
+    last-after-requires
     same-length
     same-length-2
     same-length-3

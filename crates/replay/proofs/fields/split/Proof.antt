@@ -5,10 +5,10 @@ use Rattle.replay.proofs.fields.split.Statement.{statement}
 use Rattle.replay.proofs.fields.split.Tie as tie
 
 abbrev Inv-loop : tie.InvT-loop
-Inv-loop s starts₀ ends₀ at₀ n₀ starts ends at n = (n ≤ 7) × (at ≤ length s)
+Inv-loop s starts₀ ends₀ at₀ n₀ starts ends at n = (n ≤ 8) × (at ≤ length s)
 
 abbrev μ-loop : tie.MeasureT-loop
-μ-loop s starts₀ ends₀ at₀ n₀ starts ends at n = 7 - n
+μ-loop s starts₀ ends₀ at₀ n₀ starts ends at n = 8 - n
 
 loop-holds : tie.Need-loop-holds Inv-loop μ-loop
 loop-holds c = search needs

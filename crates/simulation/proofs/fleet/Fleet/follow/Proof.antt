@@ -5,10 +5,10 @@ use Rattle.simulation.proofs.fleet.Fleet.follow.Statement.{statement}
 use Rattle.simulation.proofs.fleet.Fleet.follow.Tie as tie
 
 abbrev Inv-loop : tie.InvT-loop
-Inv-loop step first inner batch self₀ n i₀ self i = (i ≤ replicas) × (n ≤ replicas)
+Inv-loop step first era inner batch self₀ n i₀ self i = (i ≤ replicas) × (n ≤ replicas)
 
 abbrev μ-loop : tie.MeasureT-loop
-μ-loop step first inner batch self₀ n i₀ self i = n - i
+μ-loop step first era inner batch self₀ n i₀ self i = n - i
 
 len-requires : tie.Need-len-requires Inv-loop μ-loop
 len-requires c κs = search needs
