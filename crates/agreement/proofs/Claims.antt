@@ -20,7 +20,7 @@ use Rattle.reference.specs.Step.{refRun, refAnswers, refTaken}
 use Rattle.reference.proofs.PassedLaws.{taken-taken}
 use Rattle.agreement.specs.Shared.{refOf}
 use Rattle.agreement.specs.Calls.{Call, batch-call, run, sharedBatches, answers, givenBatches, reports, lastStamp, Start, new-start, join-start, startState}
-use Rattle.agreement.specs.Claim.{refStart, FollowsFrom, FollowsStart, Agree, SameOutcome}
+use Rattle.agreement.specs.Claim.{refStart, FollowsFrom, FollowsStart, Agree, SameOutcome, UpToEra}
 use Rattle.agreement.specs.Hypotheses.{Full, beganEra, leftOlder, OfBytes, StartBytes}
 use Rattle.agreement.specs.Formed.{Formed, CallFits, StartFits}
 use Rattle.agreement.proofs.Follow as follow
@@ -158,8 +158,7 @@ pub full-replica-follows : (cs : List Call) (s : StateOf) → Full base cs
 full-replica-follows = full.full-follows base base-fits
 
 -- 02, CR 1: every batch call of another era, in every state, is refused by 1, 2, 3, 4 or 15, and the state is as given
-pub other-era-refused : (s : StateOf) (b : BatchCall) → (b .era ≡ eraOf s → ⊥)
-    → (n : ℕ) × (processed base s b ≡ denied s n) × ((n ≡ 1) ⊎ ((n ≡ 2) ⊎ ((n ≡ 3) ⊎ ((n ≡ 4) ⊎ (n ≡ 15)))))
+pub other-era-refused : (s : StateOf) (b : BatchCall) → (b .era ≡ eraOf s → ⊥) → (n : ℕ) × (processed base s b ≡ denied s n) × UpToEra n
 other-era-refused s b = passed.other-era-denied base s b
 
 -- and put anywhere into a list, or left out, it changes neither the state, nor the shared batches, nor the answers, nor the reports

@@ -2,7 +2,7 @@
 -- Assumes nothing.
 use Prim.Native.Nat.{ℕ, _+_}
 use mathlib.Core.Path.{_≡_, refl, sym, ap, _∙_}
-use mathlib.Core.Logic.{_⊎_, inl, inr, ⊎-elim}
+use mathlib.Core.Logic.{inl, inr, ⊎-elim}
 use mathlib.Core.List.{List, [], _∷_, _++_}
 use mathlib.Core.Bool.{Bool, true, false, not, _||_}
 use native.Mathlib.Omega.{arith}
@@ -19,7 +19,7 @@ use Rattle.process_output.proofs.CallLaws.{Refusal, by-1, by-reading, by-4, by-
 use Rattle.reference.specs.Step.{unlessPassed}
 use Rattle.agreement.specs.Shared.{sharedAnswer, isOwnRefusal, isOtherEra, isPassed}
 use Rattle.agreement.specs.Calls.{Call, batch-call, vote-call, add-call, remove-call, message-call, due-call, after, run, asShared, sharedBatches, answers, reportThen, reports}
-use Rattle.agreement.specs.Claim.{SameOutcome}
+use Rattle.agreement.specs.Claim.{UpToEra, SameOutcome}
 use Rattle.agreement.proofs.CountLaws.{reading-refuses}
 
 -- the test, by its causes
@@ -35,17 +35,12 @@ module _ (s : StateOf) (b : BatchCall) (a : Outcome ReportOf) where
       let o = or-false (isOtherEra s b) (isOwnRefusal a) e in
       (eqb-true (b .era) (eraOf s) (not-false (eqb (b .era) (eraOf s)) (o .0)), o .1)
 
--- the rows up to row 15
-abbrev Early : ℕ → Type 0
-Early n = (n ≡ 1) ⊎ ((n ≡ 2) ⊎ ((n ≡ 3) ⊎ ((n ≡ 4) ⊎ (n ≡ 15))))
-
 module _ (z : Sizes) (s : StateOf) (b : BatchCall) where
   -- for every state and every batch call of another era: it is refused by 1, 2, 3, 4 or 15, and the state is as given
-  pub other-era-denied : (b .era ≡ eraOf s → ⊥)
-      → (n : ℕ) × (processed z s b ≡ denied s n) × ((n ≡ 1) ⊎ ((n ≡ 2) ⊎ ((n ≡ 3) ⊎ ((n ≡ 4) ⊎ (n ≡ 15)))))
-  other-era-denied other = batch-cases z s b (λ p. (n : ℕ) × (p ≡ denied s n) × Early n) refusal (λ cs c t. absurd (other (t .is-own .own-era)))
+  pub other-era-denied : (b .era ≡ eraOf s → ⊥) → (n : ℕ) × (processed z s b ≡ denied s n) × UpToEra n
+  other-era-denied other = batch-cases z s b (λ p. (n : ℕ) × (p ≡ denied s n) × UpToEra n) refusal (λ cs c t. absurd (other (t .is-own .own-era)))
     where
-      refusal : (w : Refusal z s b) → (n : ℕ) × (denied s (number z s b w) ≡ denied s n) × Early n
+      refusal : (w : Refusal z s b) → (n : ℕ) × (denied s (number z s b w) ≡ denied s n) × UpToEra n
       refusal (by-1 e) = (1, refl, inl refl)
       refusal (by-reading n e p) = (n, refl, ⊎-elim (λ q. inr (inl q)) (λ q. inr (inr (inl q))) (reading-refuses z (b .bytes) n p))
       refusal (by-4 cs c r e) = (4, refl, inr (inr (inr (inl refl))))

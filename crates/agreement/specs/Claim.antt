@@ -2,6 +2,7 @@
 use Prim.Native.Nat.{ℕ}
 use mathlib.Core.Path.{_≡_}
 use mathlib.Core.List.{List}
+use mathlib.Core.Logic.{_⊎_}
 use Rattle.lists.specs.Lists.{Found, found, nothing}
 use Rattle.bincode.specs.Read.{Read, value, refuse, whole}
 use Rattle.bincode.specs.Numbers.{fixed}
@@ -45,6 +46,10 @@ pub record FollowsStart (z : Sizes) (start : Start) (s : StateOf) (cs : List Cal
 -- the claim of two nodes and their lists of calls: the same shared part after them, and the same answers
 abbrev pub Agree : Sizes → StateOf → List Call → StateOf → List Call → Type 0
 Agree z s cs t ds = (refOf (run z s cs) ≡ refOf (run z t ds)) × (answers z s cs ≡ answers z t ds)
+
+-- 02, CR 1: the rows up to row 15, in their order: the numbers by which a batch call of another era may be refused
+abbrev pub UpToEra : ℕ → Type 0
+UpToEra n = (n ≡ 1) ⊎ ((n ≡ 2) ⊎ ((n ≡ 3) ⊎ ((n ≡ 4) ⊎ (n ≡ 15))))
 
 -- the claim of 02, CR 1, of two lists of calls from one state: the same state after them, the same shared batches, answers and reports
 abbrev pub SameOutcome : Sizes → StateOf → List Call → List Call → Type 0
