@@ -94,12 +94,12 @@ def row_4(s, r):
 
 
 def row_15(s, r):
-    """A batch of another era, earlier or later, alone and with the rows that come before 15 or behind it; in its own era each of the last would be taken or be 5, 6 or 7."""
+    """A batch of another era, earlier or later, alone and with the rows that come before 15 or behind it; in its own era each of the last would be taken or be 5 or 7."""
     m = (s.era, 59, ("part", 1, [1]), 3)
     one = [(1, b"", [m], [])]
     all_vote = [(2, b"", [], [(("schedule", (1,)), s.era, LAST, i, key) for i, key in s.map])]
     none_left = [(2, b"", [], [(("map", []), s.era, LAST, i, key) for i, key in s.map])]
-    gone = [(s.era, i, ("part", 1, []), key) for i, key in s.map if s.candidate is not None and i not in dict(s.candidate)]
+    gone = [(s.era, i, ("part", 1, []), key) for i, key in s.leaving()]
     out = []
     for era in sorted({0, max(0, s.era - 1), min(LAST, s.era + 1), LAST} - {s.era}):
         late = lambda rows, cs, verdicts, **other: (requests.first_row([15] + rows), s.line(cs, verdicts, era=era, **other))
@@ -109,7 +109,7 @@ def row_15(s, r):
                 late([3], [], [], raw=wire.u64(17)), late([3, 4], [], [4], raw=item_batch([(s.era, 1, ("ack", 0, [0] * 25), 7)], [])),
                 late([4], one, []), late([4], one, [4]), late([4], [], [0]), late([4, 5], one, [0, 0], inner=LAST),
                 late([5], [], [], inner=LAST), late([5], one, [0], inner=LAST)]
-        out += [late([6], [(2, b"", [m], [])], [0]) for m in gone]
+        out += [late([], [(2, b"", [m], [])], [0]) for m in gone]
     return out
 
 
@@ -121,15 +121,15 @@ def row_5(s, r):
 
 
 def row_6(s, r):
-    if s.candidate is None:
-        return []
-    gone = [i for i, _ in s.map if i not in dict(s.candidate)]
+    """Row 6 has no condition (02, CR 2): a key message of a leaving node is a fault of it, and its batch is refused by the other rows only. No number: it is reported."""
+    none_left = [(("map", []), s.era, LAST, i, key) for i, key in s.map]
     out = []
-    for i in gone:
-        key = dict(s.map)[i]
+    for i, key in s.leaving():
         for m in (("part", 1, []), ("ack", LAST, [1] * 3)):
-            line = [(2, b"", [(s.era, i, m, key)], [])]
-            out += [(6, s.line(line, [r.randrange(4)])), (5, s.line(line, [0], inner=LAST - s.era)), (4, s.line(line, [7]))]
+            messages = [(s.era, i, m, key)]
+            one = [(2, b"", messages, [])]
+            out += [(None, s.line(one, [r.randrange(4)])), (5, s.line(one, [0], inner=LAST - s.era)), (4, s.line(one, [7])), (4, s.line(one, [])),
+                    (1, s.line(one, [0], places=(1023, 1025))), (2, s.line([], [0], raw=wire.batch(one)[:-1])), (7, s.line([(2, b"", messages, none_left)], [r.randrange(4)]))]
     return out
 
 

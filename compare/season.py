@@ -32,14 +32,16 @@ class Oracle:
 
 
 class Season:
-    def __init__(self, oracle, seed, small=False, deep=False):
+    def __init__(self, oracle, seed, small=False, deep=False, rust=False):
         """A small season has few nodes, fewer calls, and shows the state now and then only: the sample is made of such.
-        A deep one shows after each accepted call everything that a log can show: the state, each pending vote, each stored message."""
-        self.o, self.r, self.small, self.deep = oracle, random.Random(seed), small, deep
+        A deep one shows after each accepted call everything that a log can show: the state, each pending vote, each stored message.
+        A season for the Rust has no batch at which the Rust errs: leaving nodes send nothing."""
+        self.o, self.r, self.small, self.deep, self.rust = oracle, random.Random(seed), small, deep, rust
         # apart, so that a season keeps its other calls where these are added or left out
         self.lengths = random.Random("lengths %d" % seed)
         self.late = random.Random("late %d" % seed)
-        self.era = None  # the engine's, once one has started
+        self.away = random.Random("leaving %d" % seed)
+        self.heard = []  # key messages that were received or handed back, some of which are stored
         self.lines, self.answers = [], []
         self.shown = set()  # the places of answers that a deep season adds
         self.last_era = None  # the era in which the own pending vote has the last number
@@ -59,12 +61,16 @@ class Season:
     # -- lines ---------------------------------------------------------------------------------------------------------------
     def say(self, line, number=None, maybe=False):
         """A call; with a number it was built for that row of the table, with `maybe` the Rust may take it all the same."""
-        a = requests.asked(line, self.era, self.o.ask(line), number, maybe)
+        a = requests.asked(line, self.o.ask, number, maybe)
         self.lines.append(line)
         self.answers.append(a)
         if self.deep and line.split(" ")[0] in CHANGING and (a == "refused 15" or not a.startswith(("refused", "no engine"))):
             self.show_all()
         return a
+
+    def built(self, number, line):
+        """A call as refusals.py builds it: for a row, or without a number a batch that is reported."""
+        return self.committed(line) if number is None else self.say(line, number)
 
     def show_all(self):
         """Asks without a random number, so that a deep season is the plain one with more lines."""
@@ -95,7 +101,8 @@ class Season:
     def look(self):
         shown = not self.small or self.r.random() < 0.1
         a = (self.say("state") if shown else self.o.ask("state")).split(" ")
-        self.era = int(a[1])
+        self.group = requests.group_told(" ".join(a))
+        self.era = self.group.era
         self.map = wire.read_map(bytes.fromhex(a[2]))
         self.votes = {} if a[5] == "-" else {int(v.split(":")[0]): int(v.split(":")[1]) for v in a[5].split(",")}
         self.candidate = None if a[7] == "-" else wire.read_map(bytes.fromhex(a[7]))
@@ -180,10 +187,29 @@ class Season:
                 i = r.choice([59, 0])
         return (era, i, m, sig)
 
-    def strays(self, m):
-        """Row 6: right era and signature, key generation running, signer not in the candidate map."""
-        era, i, _, sig = m
-        return (era == self.era and self.candidate is not None and dict(self.map).get(i) == sig and i not in dict(self.candidate))
+    def leaving(self):
+        """The nodes that are being removed, with their keys."""
+        return [] if self.candidate is None else [x for x in self.map if x[0] not in dict(self.candidate)]
+
+    def leaving_message(self, node):
+        """A key message of a leaving node, with anything in it; now and then its era or signature is wrong, so that it is a fault of the proposer."""
+        r, n, (i, key) = self.away, len(self.candidate), node
+        handles = [r.randrange(9)] * r.choice([n, n, 0, n - 1, n + 1, 24])
+        first = r.choice([7000 + i, 0, r.randrange(n + 1), 15, 16, LAST])
+        era = self.era if r.random() < 0.9 else max(0, min(LAST, self.era + r.choice([-1, 1])))
+        return (era, i, (r.choice(["part", "ack"]), first, handles), key if r.random() < 0.9 else r.choice([0, key + 1]))
+
+    def leaving_messages(self, share=0.5):
+        """In a share of the places where this stands, some key messages of leaving nodes; some twice, some equal to a stored one."""
+        r, nodes = self.away, self.leaving()
+        if self.rust or not nodes or r.random() >= share:
+            return []
+        stored = [m for m in self.heard if m[0] == self.era and m[1] in dict(nodes)]
+        out = []
+        for _ in range(r.choice([1, 1, 2, 3])):
+            m = r.choice(stored) if stored and r.random() < 0.5 else self.leaving_message(r.choice(nodes))
+            out += [m] * r.choice([1, 1, 1, 2])
+        return out
 
     # -- batches ---------------------------------------------------------------------------------------------------------------
     def line(self, cs, verdicts, inner=None, places=None, raw=None, era=None):
@@ -205,10 +231,9 @@ class Season:
 
     def batch(self, messages, votes, verdict=None, number=None):
         r = self.r
-        if number is None and any(self.strays(m) for m in messages):
-            number = 6
         cs = self.spread(messages, votes)
         vs = [(verdict if verdict is not None else (0 if r.random() < 0.9 else r.randrange(4))) for c in cs for _ in c[2]]
+        vs = [self.away.randrange(4) if requests.is_leaving(m, self.group) else v for v, m in zip(vs, [m for c in cs for m in c[2]])]
         return self.committed(self.line(cs, vs), number)
 
     def committed(self, line, number=None):
@@ -222,6 +247,13 @@ class Season:
         if self.era != before:
             self.second(before)
         self.inner = 0 if self.era != before else self.inner + (self.r.random() < 0.9)
+        return a
+
+    def committed_with(self, cs, verdicts, faults):
+        """A batch whose faults are stated, each `ID:KIND`, as it is built: what must be answered, made from the Rust's answer, must have them."""
+        a = self.committed(self.line(cs, verdicts))
+        if requests.faults_of(a) != faults:
+            raise SystemExit("faults %s are stated, and asked are %s" % (faults, a[:2000]))
         return a
 
     def second(self, before, share=0.15):
@@ -242,7 +274,7 @@ class Season:
             vs += [self.a_vote(self.change_wanted(), r.choice(voters), damage)]
         if self.empty_wins(c, vs):
             return
-        self.batch([], vs)
+        self.batch(self.leaving_messages(0.3), vs)
 
     def empty_wins(self, c, vs):
         return any(v[0] == ("map", []) for v in vs)
@@ -270,7 +302,9 @@ class Season:
             ms += [self.key_message(i, self.an_ack(r.choice([0, 15, 16, LAST]))) for _ in range(r.random() < 0.3)]
             ms += [self.key_message(i, self.an_ack(0, values=len(ids) + 1)) for _ in range(r.random() < 0.3)]
         r.shuffle(ms)
-        ms = [m for m in ms if not self.strays(m)][:300]
+        ms = ms[:300]
+        for m in self.leaving_messages():
+            ms.insert(self.away.randrange(len(ms) + 1), m)
         self.batch(ms, [], verdict=None)
 
     # -- own votes, messages, queries --------------------------------------------------------------------------------------------
@@ -297,6 +331,7 @@ class Season:
         m = ("part", r.randrange(3), [0] * n) if r.random() < 0.5 else ("ack", r.randrange(n + 1), [9] * n)
         era, i, m, sig = self.key_message(sender, m, 0.25)
         self.say("message %d %s" % (sender, wire.message_key_gen(era, m, sig).hex()), 12, maybe=True)
+        self.heard.append((era, sender, m, sig))
 
     def returned(self):
         r = self.r
@@ -304,6 +339,7 @@ class Season:
         m = ("part", r.randrange(9), [1] * n) if r.random() < 0.5 else ("ack", r.randrange(n), [2] * n)
         era = self.era if r.random() < 0.8 else r.choice([max(0, self.era - 1), min(LAST, self.era + 1)])
         self.say("due %s" % wire.message_key_gen(era, m, self.own_key).hex(), 12, maybe=True)
+        self.heard.append((era, self.own, m, self.own_key))
 
     def query(self):
         r = self.r

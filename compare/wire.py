@@ -76,3 +76,50 @@ def plan(era, state, m, key_set, p):
 def read_map(b):
     n = struct.unpack("<Q", b[:8])[0]
     return [struct.unpack("<IQ", b[8 + 12 * i:20 + 12 * i]) for i in range(n)]
+
+
+class Reader:
+    """Reads a batch that is well formed, into what `batch` writes."""
+
+    def __init__(self, b):
+        self.b, self.at = b, 0
+
+    def bytes(self, n):
+        self.at += n
+        return self.b[self.at - n:self.at]
+
+    def u32(self):
+        return struct.unpack("<I", self.bytes(4))[0]
+
+    def u64(self):
+        return struct.unpack("<Q", self.bytes(8))[0]
+
+    def many(self, item):
+        return [item() for _ in range(self.u64())]
+
+    def key_gen(self):
+        return ({0: "part", 1: "ack"}[self.u32()], self.u64(), self.many(self.u64))
+
+    def signed(self):
+        return (self.u64(), self.u32(), self.key_gen(), self.u64())
+
+    def schedule(self):
+        tag = self.u32()
+        return (tag,) + tuple(self.u32() for _ in range({0: 0, 1: 0, 2: 1, 3: 2}[tag]))
+
+    def change(self):
+        return ("map", self.many(lambda: (self.u32(), self.u64()))) if self.u32() == 0 else ("schedule", self.schedule())
+
+    def vote(self):
+        return (self.change(), self.u64(), self.u64(), self.u32(), self.u64())
+
+    def contribution(self):
+        return (self.u32(), self.bytes(self.u64()), self.many(self.signed), self.many(self.vote))
+
+
+def read_batch(b):
+    """The contributions of a batch that is well formed."""
+    r = Reader(b)
+    cs = r.many(r.contribution)
+    assert batch(cs) == b, b.hex()
+    return cs

@@ -5,11 +5,16 @@
 //!                   nothing put back; comments are printed, and `counts` shows the counts per sender and the size of the store
 //! --values          no log: lines `max-faulty HEX`, `winner HEX`, `complete HEX`, each answered by the Rust's function of that name
 //! --share-passes    a share of too few values does not panic, so that the batch applies and the recipe says `missing`
+//!
+//! Two lines more, which are no calls of the log and not there with --raw:
+//! try LINE          what a call would answer; the state stays as it was
+//! unsigned ..       a `batch` in which a verdict may be 4: under no key does that message verify
 use std::io::{self, BufRead, Write};
 use std::panic::{catch_unwind, set_hook, AssertUnwindSafe};
 use std::sync::atomic::Ordering::Relaxed;
 use std::sync::Mutex;
 
+use hbbft::crypto::UNSIGNED;
 use hbbft::{mode, Answer, Engine, Report};
 
 /// What the last panic said.
@@ -116,15 +121,9 @@ impl Oracle {
                 let message = bytes(f[1])?;
                 self.change(line, |engine, _| engine.log_due(&message))
             }
-            (b"batch", 7) => {
-                let (era, inner, batch, verdicts) = (big(f[1])?, big(f[2])?, bytes(f[3])?, bytes(f[4])?);
-                let lent = (places(f[5])?, places(f[6])?);
-                self.change(line, |engine, last| {
-                    let (report, answer) = engine.log_batch(era, inner, &batch, &verdicts, lent)?;
-                    *last = Some(report);
-                    Ok(answer)
-                })
-            }
+            (b"batch", 7) => self.batch(line, &f, 3)?,
+            (b"unsigned", 7) if !mode::raw() => self.batch(line, &f, UNSIGNED)?,
+            (b"try", _) if !mode::raw() => self.tried(line.get(4..)?)?,
             (b"plan", 3) => {
                 let (key_set, room) = (big(f[1])?, places(f[2])?);
                 self.ask(|_, last| last.as_ref().map_or(Ok("no report".into()), |report| Engine::log_plan(report, key_set, room)))
@@ -160,6 +159,33 @@ impl Oracle {
         })
     }
 
+    /// A batch with its fields; no verdict is over `most`.
+    fn batch(&mut self, line: &[u8], f: &[&[u8]], most: u8) -> Option<String> {
+        let (era, inner, batch, verdicts) = (big(f[1])?, big(f[2])?, bytes(f[3])?, bytes(f[4])?);
+        let lent = (places(f[5])?, places(f[6])?);
+        Some(self.change(line, |engine, last| {
+            let (report, answer) = engine.log_batch(era, inner, &batch, &verdicts, most, lent)?;
+            *last = Some(report);
+            Ok(answer)
+        }))
+    }
+
+    /// What a line would answer. The state from before is made again, whatever the answer.
+    fn tried(&mut self, line: &[u8]) -> Option<String> {
+        let before = self.accepted.clone();
+        let answer = self.answer(line);
+        self.again(before);
+        answer
+    }
+
+    /// The state to which these lines led.
+    fn again(&mut self, lines: Vec<Vec<u8>>) {
+        *self = Oracle::default();
+        for line in lines {
+            self.answer(&line);
+        }
+    }
+
     /// `new` and `join`: an accepted one starts afresh.
     fn start(&mut self, line: &[u8], call: impl FnOnce() -> Answer<(Engine, String)>) -> String {
         match guarded(call) {
@@ -191,9 +217,8 @@ impl Oracle {
             }
             Some(Err(why)) => {
                 if !mode::raw() {
-                    for line in std::mem::take(&mut self.accepted) {
-                        self.answer(&line);
-                    }
+                    let before = std::mem::take(&mut self.accepted);
+                    self.again(before);
                 }
                 undefined(why)
             }

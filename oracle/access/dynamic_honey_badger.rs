@@ -295,12 +295,13 @@ impl Engine {
         Ok("handled".into())
     }
 
-    pub fn log_batch(&mut self, era: u64, inner: u64, batch: &[u8], verdicts: &[u8], places: (usize, usize)) -> Answer<(Report, String)> {
+    /// No verdict is over `most`: 3, or the stand-ins' `UNSIGNED` for the generator.
+    pub fn log_batch(&mut self, era: u64, inner: u64, batch: &[u8], verdicts: &[u8], most: u8, places: (usize, usize)) -> Answer<(Report, String)> {
         within(places.0 >= 1024 && places.1 >= 1025)?;
         // The Rust's batches carry no era: one of another era (document 02, CR 1) is handed on with --raw only, as if it were the engine's.
         within(era == self.era)?;
         let batch = read_batch(batch)?;
-        if verdicts.len() != batch.values().map(|c| c.key_gen_messages.len()).sum() || verdicts.iter().any(|v| *v > 3) {
+        if verdicts.len() != batch.values().map(|c| c.key_gen_messages.len()).sum() || verdicts.iter().any(|v| *v > most) {
             return Err("wrong verdicts".into());
         }
         within(self.era.checked_add(inner).map_or(false, |epoch| epoch < u64::max_value()))?;

@@ -2,6 +2,7 @@
 //!
 //! A verdict byte reaches sync_key_gen.rs like this: the oracle puts it beside a message's signature; `verify`, which the Rust calls
 //! before it handles the message, remembers it; `decrypt` and the comparison with a commitment then turn out as the verdict says.
+//! One more verdict, `UNSIGNED`, is the generator's: under no key does that message verify.
 use std::cell::{Cell, RefCell};
 use std::convert::TryFrom;
 use std::hash::{Hash, Hasher};
@@ -17,6 +18,9 @@ thread_local! {
     /// For each interpolation since the last share, the places of the values it was given.
     static ROWS: RefCell<Vec<Vec<u64>>> = RefCell::new(Vec::new());
 }
+
+/// The verdict of a message that counts as signed by nobody.
+pub const UNSIGNED: u8 = 4;
 
 /// A key's handle; 0 is no key.
 #[derive(Clone, Debug, PartialEq, Eq, Hash, Serialize, Deserialize)]
@@ -39,7 +43,7 @@ impl From<PublicKey> for u64 {
 impl PublicKey {
     pub fn verify<M: AsRef<[u8]>>(&self, sig: &Signature, _msg: M) -> bool {
         VERDICT.with(|v| v.set(sig.verdict));
-        sig.key == self.0
+        sig.key == self.0 && sig.verdict != UNSIGNED
     }
 
     pub fn encrypt_with_rng<R: Rng, M: AsRef<[u8]>>(&self, _rng: &mut R, _msg: M) -> Ciphertext {

@@ -1,4 +1,4 @@
--- Steps 6 to 8 and rows 5 to 7 are the same tests on a node's state and on the reference state.
+-- Steps 6 to 8 and rows 5 and 7 are the same tests on a node's state and on the reference state.
 -- Assumes nothing.
 use Prim.Native.Nat.{ℕ, _≤_}
 use mathlib.Core.Path.{_≡_, refl, ap, _∙_}
@@ -14,18 +14,17 @@ use Rattle.change.specs.Change.{ChangeOf, nodeChange, encryptionSchedule, inPro
 use Rattle.vote_counter.specs.VoteCounter.{computeWinner}
 use Rattle.key_gen.specs.KeyGen.{KeyGenOf, threshold, complete, countComplete, enough, ready}
 use Rattle.key_gen_state.specs.KeyGenState.{KeyGenStateOf, readyState}
-use Rattle.key_gen_message.specs.KeyGenMessage.{SignedKeyGenMsgOf}
 use Rattle.internal_contrib.specs.InternalContrib.{ContribOf}
 use Rattle.dynamic_honey_badger.specs.Asked.{row5}
 use Rattle.dynamic_honey_badger.specs.State.{StateOf, nodesIn, newEra, keyGenFor, partDue, candidateNodes}
 use Rattle.steps.specs.Steps.{committed}
 use Rattle.decision.specs.Decision.{Decided, decidedAs, completedBy, isCandidate, mapWins, scheduleWins, electedBy, decide, isEmptyMap, emptyWins}
-use Rattle.process_output.specs.Refusals.{some, isOutside, isStray, strayIn, batchRow6, batchRow7}
+use Rattle.process_output.specs.Refusals.{batchRow7}
 use Rattle.reference.specs.Reference.{RefState}
-use Rattle.reference.specs.Step.{RefWork, refComplete, isReady, refReady, RefDecided, decidedRef, newEraRef, refCompleted, isCandidateRef, refElected, refWinner, refDecide, refRow5, isOutsideRef, isStrayRef, anyStray, refRow6, winsEmpty, refRow7}
+use Rattle.reference.specs.Step.{RefWork, refComplete, isReady, refReady, RefDecided, decidedRef, newEraRef, refCompleted, isCandidateRef, refElected, refWinner, refDecide, refRow5, winsEmpty, refRow7}
 use Rattle.reference.proofs.WinnerLaws.{winner-is}
 use Rattle.agreement.specs.Shared.{partRef, candidateRef, refOf}
-use Rattle.agreement.proofs.StepLaws.{itemCount, signed-is, contribs-shared}
+use Rattle.agreement.proofs.StepLaws.{itemCount, contribs-shared}
 
 -- as many complete parts
 count-is : (g : KeyGenOf) → length (filter (refComplete (threshold g)) (map partRef (g .parts))) ≡ countComplete g
@@ -78,26 +77,6 @@ decide-shared z era s = rw (ready-is (s .key-gen), winner-shared s) (go (readySt
 pub row5-shared : (epoch : ℕ) → row5 epoch ≡ refRow5 epoch
 unfolding row5
 row5-shared epoch = refl
-
--- row 6
-outside-is : (g : Found KeyGenStateOf) (id : ℕ) → isOutside (candidateNodes g) id ≡ isOutsideRef (mapFound candidateRef g) id
-outside-is (found g) id = refl
-outside-is nothing id = refl
-
-module _ (s : StateOf) where
-  stray-is : (m : SignedKeyGenMsgOf) → strayIn s m ≡ isStrayRef (refOf s) m
-  unfolding isStray isStrayRef
-  stray-is m = rw (signed-is s m, outside-is (s .key-gen) (m .id))
-
-  some-stray : (ms : List SignedKeyGenMsgOf) → some (strayIn s) ms ≡ anyStray (refOf s) ms
-  unfolding some anyStray
-  some-stray [] = refl
-  some-stray (m ∷ ms) = rw (stray-is m, some-stray ms)
-
-  pub row6-shared : (cs : List ContribOf) → batchRow6 s cs ≡ refRow6 (refOf s) cs
-  unfolding batchRow6 some refRow6
-  row6-shared [] = refl
-  row6-shared (c ∷ cs) = rw (some-stray (c .messages), row6-shared cs)
 
 -- row 7
 empty-is : (x : Found ChangeOf) → isEmptyMap x ≡ winsEmpty x

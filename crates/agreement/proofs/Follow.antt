@@ -17,9 +17,9 @@ use Rattle.dynamic_honey_badger.specs.OwnVotes.{voteForBytes, voteToAdd, voteTo
 use Rattle.dynamic_honey_badger.specs.Received.{received, returned}
 use Rattle.steps.specs.Steps.{WorkOf, committed}
 use Rattle.process_output.specs.Process.{BatchCall, ProcessedOf, finished, processed}
-use Rattle.process_output.proofs.CallLaws.{IsRead, IsTaken, Refusal, by-1, by-reading, by-4, by-15, by-5, by-6, by-7, number, batch-cases}
+use Rattle.process_output.proofs.CallLaws.{IsRead, IsTaken, Refusal, by-1, by-reading, by-4, by-15, by-5, by-7, number, batch-cases}
 use Rattle.reference.specs.Reference.{RefState}
-use Rattle.reference.specs.Step.{RefWork, RefAnswer, deniedRef, reportedRef, refDecide, refRow5, refRow6, refRow7, refSteps, refBatch, SharedBatch, passesOver, refStep, unlessPassed, refAfter, refRun, refAnswers, refTaken}
+use Rattle.reference.specs.Step.{RefWork, RefAnswer, deniedRef, reportedRef, refDecide, refRow5, refRow7, refSteps, refBatch, SharedBatch, passesOver, refStep, unlessPassed, refAfter, refRun, refAnswers, refTaken}
 use Rattle.reference.proofs.PassedLaws.{own-era, own-after}
 use Rattle.reference.proofs.ReportLaws.{reading-hands-on, reading-refuses as ref-reading-refuses}
 use Rattle.agreement.specs.Shared.{refOf, sharedAnswer, isOwnRefusal, isPassed}
@@ -29,7 +29,7 @@ use Rattle.agreement.proofs.StepLaws.{refWork, itemCount, contribs-shar
 use Rattle.agreement.proofs.CountLaws.{few-items}
 use Rattle.agreement.proofs.PassedCalls.{not-passed, batch-passed}
 use Rattle.agreement.proofs.OwnCalls.{vote-for-kept, vote-to-add-kept, vote-to-remove-kept, message-kept, due-kept}
-use Rattle.agreement.proofs.DecisionLaws.{decide-shared, row5-shared, row6-shared, row7-shared}
+use Rattle.agreement.proofs.DecisionLaws.{decide-shared, row5-shared, row7-shared}
 
 -- what a batch call leaves and answers, less what is the node's own
 abbrev refProcessed : ProcessedOf → RefAnswer
@@ -47,12 +47,11 @@ module _ (z : Sizes) (s : StateOf) (b : BatchCall) where
       ∙ ap (λ (x : RefWork). reportedRef (refOf s) epoch (x .faults) (refDecide (epoch + 1) (x .state))) (contribs-shared z s (b .verdicts) cs room)
 
   -- the rows that both have
-  ref-rows : (cs : List ContribOf) (r5 r6 r7 : Bool) → refRow5 (eraOf s + b .inner) ≡ r5 → refRow6 (refOf s) cs ≡ r6 → refRow7 z (refOf s) cs ≡ r7
-      → cond r5 (deniedRef (refOf s) 5) (cond r6 (deniedRef (refOf s) 6) (cond r7 (deniedRef (refOf s) 7) (refSteps z (refOf s) (eraOf s + b .inner) cs)))
+  ref-rows : (cs : List ContribOf) (r5 r7 : Bool) → refRow5 (eraOf s + b .inner) ≡ r5 → refRow7 z (refOf s) cs ≡ r7
+      → cond r5 (deniedRef (refOf s) 5) (cond r7 (deniedRef (refOf s) 7) (refSteps z (refOf s) (eraOf s + b .inner) cs))
       ≡ refBatch z (refOf s) (b .inner) cs
   unfolding refBatch
-  ref-rows cs r5 r6 r7 e5 e6 e7 =
-      λ i. cond (sym e5 i) (deniedRef (refOf s) 5) (cond (sym e6 i) (deniedRef (refOf s) 6) (cond (sym e7 i) (deniedRef (refOf s) 7) (refSteps z (refOf s) (eraOf s + b .inner) cs)))
+  ref-rows cs r5 r7 e5 e7 = λ i. cond (sym e5 i) (deniedRef (refOf s) 5) (cond (sym e7 i) (deniedRef (refOf s) 7) (refSteps z (refOf s) (eraOf s + b .inner) cs))
 
   module _ (fits : z .items ≤ z .faults) where
     -- a batch that is read, at the reference state
@@ -70,12 +69,9 @@ module _ (z : Sizes) (s : StateOf) (b : BatchCall) where
     refusal-step own (by-4 cs c r e) h = absurd (false-true (sym h))
     refusal-step own (by-15 cs c r e other) h = absurd (other own)
     refusal-step own (by-5 cs c o e) h =
-        ref-rows cs true (refRow6 (refOf s) cs) (refRow7 z (refOf s) cs) (sym (row5-shared (eraOf s + b .inner)) ∙ e) refl refl ∙ read-ref cs c (o .is-read)
-    refusal-step own (by-6 cs c o h5 e) h =
-        ref-rows cs false true (refRow7 z (refOf s) cs) (sym (row5-shared (eraOf s + b .inner)) ∙ h5) (sym (row6-shared s cs) ∙ e) refl ∙ read-ref cs c (o .is-read)
-    refusal-step own (by-7 cs c o h5 h6 e) h =
-        ref-rows cs false false true (sym (row5-shared (eraOf s + b .inner)) ∙ h5) (sym (row6-shared s cs) ∙ h6) (sym (row7-shared z s (b .verdicts) cs (room cs c (o .is-read))) ∙ e)
-        ∙ read-ref cs c (o .is-read)
+        ref-rows cs true (refRow7 z (refOf s) cs) (sym (row5-shared (eraOf s + b .inner)) ∙ e) refl ∙ read-ref cs c (o .is-read)
+    refusal-step own (by-7 cs c o h5 e) h =
+        ref-rows cs false true (sym (row5-shared (eraOf s + b .inner)) ∙ h5) (sym (row7-shared z s (b .verdicts) cs (room cs c (o .is-read))) ∙ e) ∙ read-ref cs c (o .is-read)
 
     -- a batch that no row refuses
     taken-step : (cs : List ContribOf) (c : ℕ) → IsTaken z s b cs c
@@ -83,8 +79,7 @@ module _ (z : Sizes) (s : StateOf) (b : BatchCall) where
     taken-step cs c t =
         let r : IsRead z s b cs c = t .is-own .is-read in
         steps-shared cs (room cs c r)
-        ∙ ref-rows cs false false false (sym (row5-shared (eraOf s + b .inner)) ∙ t .early) (sym (row6-shared s cs) ∙ t .known)
-        (sym (row7-shared z s (b .verdicts) cs (room cs c r)) ∙ t .not-empty)
+        ∙ ref-rows cs false false (sym (row5-shared (eraOf s + b .inner)) ∙ t .early) (sym (row7-shared z s (b .verdicts) cs (room cs c r)) ∙ t .not-empty)
         ∙ read-ref cs c r
 
     -- a batch call of the engine's era that is not refused by 1 or 4 is the reference state's step

@@ -21,7 +21,7 @@ use Rattle.internal_contrib.specs.Places.{messageCount}
 use Rattle.dynamic_honey_badger.specs.State.{StateOf}
 use Rattle.process_output.specs.Refusals.{some, batchRow1, noVerdict, batchRow4}
 use Rattle.process_output.specs.Process.{BatchCall, processed}
-use Rattle.process_output.proofs.CallLaws.{IsRead, Refusal, by-1, by-reading, by-4, by-15, by-5, by-6, by-7, number, batch-cases}
+use Rattle.process_output.proofs.CallLaws.{IsRead, Refusal, by-1, by-reading, by-4, by-15, by-5, by-7, number, batch-cases}
 use Rattle.reference.specs.Reference.{RefState}
 use Rattle.reference.specs.Step.{SharedBatch, passesOver, unlessPassed, refAfter, refRun, refAnswers, refTaken}
 use Rattle.reference.proofs.PassedLaws.{taken-run, taken-answers}
@@ -67,8 +67,7 @@ module _ (z : Sizes) (s : StateOf) (b : BatchCall) where
       refusal (by-4 cs c r e) = absurd (false-true (sym (judged cs c r) ∙ e))
       refusal (by-15 cs c r e o) = refl
       refusal (by-5 cs c o e) = refl
-      refusal (by-6 cs c o h e) = refl
-      refusal (by-7 cs c o h k e) = refl
+      refusal (by-7 cs c o h e) = refl
 
   -- what rows 1 and 4 say where they do not hold
   formed : (cs : List ContribOf) → batchRow4 cs (b .verdicts) ≡ false → (length (b .verdicts) ≡ messageCount cs) × All (λ (v : ℕ). v ≤ 3) (b .verdicts)
@@ -106,8 +105,7 @@ module _ (z : Sizes) (s : StateOf) (b : BatchCall) where
       refusal (by-4 cs c r e) h = absurd (false-true (sym h))
       refusal (by-15 cs c r e o) h = judged cs c r e
       refusal (by-5 cs c o e) h = judged cs c (o .is-read) (o .judged)
-      refusal (by-6 cs c o h5 e) h = judged cs c (o .is-read) (o .judged)
-      refusal (by-7 cs c o h5 h6 e) h = judged cs c (o .is-read) (o .judged)
+      refusal (by-7 cs c o h5 e) h = judged cs c (o .is-read) (o .judged)
 
   -- by the era a node and the reference state pass over the same batches
   pub era-passed : isOtherEra s b ≡ passesOver (refOf s) (asShared b)

@@ -4,6 +4,8 @@ use Prim.Native.Nat.{ℕ}
 use mathlib.Core.Path.{_≡_, refl, sym, ap, _∙_}
 use mathlib.Core.List.{List, [], _∷_}
 use mathlib.Core.Bool.{Bool, true, false, cond, _&&_}
+use mathlib.Core.Logic.{inl, inr, ⊎-elim}
+use native.Mathlib.Omega.{arith}
 use lib.Dec.{ltb, eqb}
 use lib.ListN.{length}
 use Rattle.lists.specs.Lists.{Found, found, nothing, mapFound, lookup, insert, hasKey, insertWithin}
@@ -11,7 +13,7 @@ use Rattle.bincode.specs.Sizes.{Sizes}
 use Rattle.bincode.specs.Items.{foldl}
 use Rattle.bincode.specs.Stands.{All}
 use Rattle.pub_key_map.specs.declared.Node.{Node}
-use Rattle.network_info.specs.NetworkInfo.{nodeIndex, keyOf}
+use Rattle.network_info.specs.NetworkInfo.{nodeIndex, isMember, keyOf}
 use Rattle.fault_log.specs.declared.FaultKind.the-variants.{InvalidCommittedVote, InvalidKeyGenMessageSignature, InvalidKeyGenMessageEra, SyncKeyGenPart, SyncKeyGenAck}
 use Rattle.fault_log.specs.declared.PartFault.the-variants.{RowCount, MultipleParts}
 use Rattle.fault_log.specs.declared.AckFault.the-variants.{ValueCount}
@@ -20,6 +22,7 @@ use Rattle.sync_key_gen.specs.SyncKeyGen.{PartOf}
 use Rattle.key_gen_message.specs.KeyGenMessage.{KeyGenMessageOf, part, ack, SignedKeyGenMsgOf}
 use Rattle.internal_contrib.specs.InternalContrib.{ContribOf}
 use Rattle.reference.specs.Reference.{PartRef, CandidateRef, RefState}
+use Rattle.reference.specs.Terms.{Leaving}
 use Rattle.reference.specs.Step.{RefWork, blamed, isKeyOf, byVoter, isOld, votesNow, refVote, byIndex, candidateNow, refPartFound, isIn, refAckFound, refTracked, refHandled, isSigned, refMessage, refContrib, refContribs}
 
 -- what holds of each element holds of each after one is put in
@@ -155,3 +158,28 @@ module _ (P : SignedVoteOf → Type 0) where
   pub contribs-keep : (z : Sizes) (s : RefState) (cs : List ContribOf) → All Voted cs → Kept s (refContribs z s cs .state)
   unfolding refContribs
   contribs-keep z s cs q = fold-kept Voted (refContrib z) (contrib-keeps z) (record { state = s; faults = [] }) cs q
+
+-- 02, CR 2: and so who is leaving: a key message that is a leaving node's before a batch is one wherever it is met in it
+pub leaving-kept : (z : Sizes) (s : RefState) (cs : List ContribOf) (m : SignedKeyGenMsgOf) → Leaving s m → Leaving (refContribs z s cs .state) m
+leaving-kept z s cs m h = go (t .candidate) refl (k .candidate ∙ ap (mapFound mapOf) (h .running))
+  where
+    Any : SignedVoteOf → Type 0
+    Any v = Unit {0}
+
+    t : RefState
+    t = refContribs z s cs .state
+
+    k : Kept Any s t
+    k = contribs-keep Any z s cs (all-any (Voted Any) (λ c. all-any Any (λ v. tt) (c .votes)) cs)
+
+    go : (f : Found CandidateRef) → t .candidate ≡ f → mapFound mapOf f ≡ found (h .candidate .nodes) → Leaving t m
+    go (found g) e q =
+        let ns : g .nodes ≡ h .candidate .nodes = cc in
+        record {
+          candidate = g;
+          running = e;
+          right-era = h .right-era ∙ sym (k .era);
+          signed = ⊎-elim (λ p. inl (ap (λ (xs : List Node). keyOf xs (m .id)) (k .nodes) ∙ p)) (λ p. inr (ap (λ (xs : List Node). keyOf xs (m .id)) ns ∙ p)) (h .signed);
+          outside = ap (λ (xs : List Node). isMember xs (m .id)) ns ∙ h .outside;
+        }
+    go nothing e q = absurd (let y : _≡_ {A = ℕ} 0 1 = cc in let w : ⊥ = omega arith in w)

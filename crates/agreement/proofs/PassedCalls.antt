@@ -15,7 +15,7 @@ use Rattle.bincode.proofs.ReadLaws.{or-false}
 use Rattle.dynamic_honey_badger.specs.State.{StateOf, eraOf}
 use Rattle.steps.specs.Steps.{committed}
 use Rattle.process_output.specs.Process.{BatchCall, ReportOf, ProcessedOf, denied, finished, processed}
-use Rattle.process_output.proofs.CallLaws.{Refusal, by-1, by-reading, by-4, by-15, by-5, by-6, by-7, number, batch-cases}
+use Rattle.process_output.proofs.CallLaws.{Refusal, by-1, by-reading, by-4, by-15, by-5, by-7, number, batch-cases}
 use Rattle.reference.specs.Step.{unlessPassed}
 use Rattle.agreement.specs.Shared.{sharedAnswer, isOwnRefusal, isOtherEra, isPassed}
 use Rattle.agreement.specs.Calls.{Call, batch-call, vote-call, add-call, remove-call, message-call, due-call, after, run, asShared, sharedBatches, answers, reportThen, reports}
@@ -46,8 +46,7 @@ module _ (z : Sizes) (s : StateOf) (b : BatchCall) where
       refusal (by-4 cs c r e) = (4, refl, inr (inr (inr (inl refl))))
       refusal (by-15 cs c r e o) = (15, refl, inr (inr (inr (inr refl))))
       refusal (by-5 cs c o e) = absurd (other (o .own-era))
-      refusal (by-6 cs c o h e) = absurd (other (o .own-era))
-      refusal (by-7 cs c o h k e) = absurd (other (o .own-era))
+      refusal (by-7 cs c o h e) = absurd (other (o .own-era))
 
   pub other-era-kept : (b .era ≡ eraOf s → ⊥) → processed z s b .state ≡ s
   other-era-kept other = ap (λ (p : ProcessedOf). p .state) (other-era-denied other .1)

@@ -42,7 +42,7 @@ pub record Reported (s : RefState) (inner : ℕ) (a : RefAnswer) (batch : BatchO
 module _ (z : Sizes) (s : RefState) where
   contribs-reported : (inner : ℕ) (cs : List ContribOf) (x : RefReport) → refBatch z s inner cs .answer ≡ done x → Reported s inner (refBatch z s inner cs) (x .batch)
   unfolding refSteps
-  contribs-reported inner cs x = tests z s inner cs (λ a. a .answer ≡ done x → Reported s inner a (x .batch)) (λ n e. absurd (done-refused e)) (λ h. taken)
+  contribs-reported inner cs x = tests z s inner cs (λ a. a .answer ≡ done x → Reported s inner a (x .batch)) (λ n i e. absurd (done-refused e)) (λ h. taken)
     where
       t : RefState
       t = refContribs z s cs .state

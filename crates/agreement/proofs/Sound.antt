@@ -141,7 +141,7 @@ module _ (z : Sizes) where
   module _ (nodes-fit : z .nodes < 256 ^ 8) (rows-fit : z .rows < 256 ^ 8) (user-fits : z .user < 256 ^ 8) where
     contribs-ok : (s : RefState) (inner : ℕ) (cs : List ContribOf) → All (λ c. All VotesFor (c .votes)) cs → RefOk s → AnswerOk (refBatch z s inner cs)
     unfolding refSteps
-    contribs-ok s inner cs votes o = tests z s inner cs AnswerOk (λ n. denied-ok s n o) reported
+    contribs-ok s inner cs votes o = tests z s inner cs AnswerOk (λ n i. denied-ok s n o) reported
       where
         t : RefState
         t = refContribs z s cs .state

@@ -98,7 +98,7 @@ candidate-key-is : (g : Found KeyGenStateOf) (id sig : ℕ) → ref.isCandidateK
 candidate-key-is (found g) id sig = key-is sig (keyOf (g .key-gen .nodes) id)
 candidate-key-is nothing id sig = refl
 
-pub signed-is : (s : StateOf) (m : SignedKeyGenMsgOf) → isSigned (refOf s) m ≡ validUnder (nodesIn s) (candidateNodes (s .key-gen)) (m .id) (m .sig)
+signed-is : (s : StateOf) (m : SignedKeyGenMsgOf) → isSigned (refOf s) m ≡ validUnder (nodesIn s) (candidateNodes (s .key-gen)) (m .id) (m .sig)
 unfolding isSigned validUnder
 signed-is s m = rw (key-is (m .sig) (keyOf (nodesIn s) (m .id)), candidate-key-is (s .key-gen) (m .id) (m .sig))
 
@@ -155,10 +155,10 @@ module _ (z : Sizes) (p : ℕ) (w : WorkOf) (m : SignedKeyGenMsgOf) (room : leng
         go false false true = blame-own z (m .id) (SyncKeyGenAck DeserializeValue) (messageLeft w m (keyGenLeft k)) room refl
         go false false false = blame-own z (m .id) (SyncKeyGenAck ValueCommitment) (messageLeft w m (keyGenLeft k)) room refl
 
-    -- a part, by its signer's index
+    -- a part, by its signer's index; 02, CR 2: the fault of one that has none is of a shared kind
     part-shared : (q : PartOf) (v : ℕ) (i : Found ℕ) → seen (partBy (g .key-gen) q v i) ≡ refTracked (m .id) (candidateRef g) (refLeft w (found g)) (part q) i
     unfolding partOfIndex recordPart
-    part-shared q v nothing = refl
+    part-shared q v nothing = blame-shared z (m .id) UnexpectedKeyGenPart (messageLeft w m (found g)) room refl
     part-shared q v (found i) =
         rw (sym (map-lookup partRef byIndex (g .key-gen .parts) i)) (go (eqb (length (q .rows)) (length (g .key-gen .nodes))) (lookup byProposer (g .key-gen .parts) i))
       where
@@ -180,10 +180,10 @@ module _ (z : Sizes) (p : ℕ) (w : WorkOf) (m : SignedKeyGenMsgOf) (room : leng
             row-own (withParts (g .key-gen) (insert byProposer fresh (g .key-gen .parts))) i v (observes (g .key-gen))
             ∙ ap (candidateNow (refLeft w (found g)) (candidateRef g)) (map-insert partRef byIndex fresh (g .key-gen .parts))
 
-    -- an ack, by its signer's index
+    -- an ack, likewise
     ack-shared : (a : AckOf) (v : ℕ) (j : Found ℕ) → seen (ackBy (g .key-gen) a v j) ≡ refTracked (m .id) (candidateRef g) (refLeft w (found g)) (ack a) j
     unfolding ackOfIndex recordAck acked
-    ack-shared a v nothing = refl
+    ack-shared a v nothing = blame-shared z (m .id) UnexpectedKeyGenAck (messageLeft w m (found g)) room refl
     ack-shared a v (found j) =
         rw (sym (map-lookup partRef byIndex (g .key-gen .parts) (a .proposer)))
         (go (eqb (length (a .values)) (length (g .key-gen .nodes))) (lookup byProposer (g .key-gen .parts) (a .proposer)))

@@ -33,7 +33,7 @@ use Rattle.dynamic_honey_badger.specs.OwnVotes.{voteFor, voteForBytes, voteToAd
 use Rattle.dynamic_honey_badger.specs.Received.{quiet, receivedKeyGen, receivedContent, received, readDueItem, returnedKeyGen, returned}
 use Rattle.steps.specs.Steps.{committedVote, messageDone, committedMessage, committedContrib, committed}
 use Rattle.decision.specs.Decision.{mapWins, decide, emptyWins}
-use Rattle.process_output.specs.Refusals.{some, batchRow1, batchRow4, batchRow15, isStray, batchRow6, batchRow7}
+use Rattle.process_output.specs.Refusals.{some, batchRow1, batchRow4, batchRow15, batchRow7}
 use Rattle.process_output.specs.Process.{denied, processedContribs, processedRead, processed}
 use Rattle.agreement.specs.Calls.{startState}
 use Rattle.agreement.specs.Witness.{alone, params, giverStart, scheduleVote, addVote, removeVote, scheduleAsked, partDue, partSent, voteSent, addBatch, lateBatch, completeBatch, opened, asked, voted, added, returnedOne, storedBoth, completed, removing, ended, addReport, giverReport, joinerReport, joinerBatch, joinerOpened, joinerCompleted, observerOpened}
@@ -59,7 +59,7 @@ add-cast = refl
 
 -- the first batch: the vote wins, a new era begins, key generation starts
 pub added-reported : processed base voted addBatch ≡ record { state = added; answer = done addReport }
-unfolding processed batchRow1 processedContribs batchRow4 messageCount some batchRow15 row5 batchRow6 batchRow7 emptyWins committed committedContrib committedVote addCommitted committedEffect obsolete lookup validVote keyOf insertWithin hasKey insert isMember computeWinner winner winnerAfter support sameChange eqList sameNode maxFaulty decide mapWins keyGenFor newEra fromEra filter
+unfolding processed batchRow1 processedContribs batchRow4 messageCount some batchRow15 row5 batchRow7 emptyWins committed committedContrib committedVote addCommitted committedEffect obsolete lookup validVote keyOf insertWithin hasKey insert isMember computeWinner winner winnerAfter support sameChange eqList sameNode maxFaulty decide mapWins keyGenFor newEra fromEra filter
 added-reported = ap (processedRead base voted addBatch) adding-read
 
 -- 02, CR 1: behind it a batch of the closed era is refused by 15
@@ -78,7 +78,7 @@ part-received = refl
 
 -- the second batch: key generation is ready, so the vote in it does not decide
 pub completed-reported : processed base storedBoth completeBatch ≡ record { state = completed; answer = done giverReport }
-unfolding processed batchRow1 processedContribs batchRow4 messageCount some batchRow15 row5 batchRow6 isStray validUnder keyOf isMember batchRow7 emptyWins committed committedContrib committedVote addCommitted committedEffect obsolete lookup validVote insertWithin hasKey insert committedMessage messageDone handlePart indexFrom partOfIndex recordPart rowEffect handleAck ackOfIndex recordAck acked valueEffect without filter sameSigned sameMessage sameHeaded eqList ready enough countComplete complete maxFaulty decide recipe someShort newEra fromEra
+unfolding processed batchRow1 processedContribs batchRow4 messageCount some batchRow15 row5 validUnder keyOf isMember batchRow7 emptyWins committed committedContrib committedVote addCommitted committedEffect obsolete lookup validVote insertWithin hasKey insert committedMessage messageDone handlePart indexFrom partOfIndex recordPart rowEffect handleAck ackOfIndex recordAck acked valueEffect without filter sameSigned sameMessage sameHeaded eqList ready enough countComplete complete maxFaulty decide recipe someShort newEra fromEra
 completed-reported = ap (processedRead base storedBoth completeBatch) completing-read
 
 -- an own vote for a node less, and the joiner's vote received
@@ -92,5 +92,5 @@ vote-received = refl
 
 -- the second batch at the joiner, with its own verdicts
 pub joiner-reported : processed base joinerOpened joinerBatch ≡ record { state = joinerCompleted; answer = done joinerReport }
-unfolding processed batchRow1 processedContribs batchRow4 messageCount some batchRow15 row5 batchRow6 isStray validUnder keyOf isMember batchRow7 emptyWins committed committedContrib committedVote addCommitted committedEffect obsolete lookup validVote insertWithin hasKey insert committedMessage messageDone handlePart indexFrom partOfIndex recordPart rowEffect handleAck ackOfIndex recordAck acked valueEffect without filter ready enough countComplete complete maxFaulty decide recipe someShort newEra fromEra
+unfolding processed batchRow1 processedContribs batchRow4 messageCount some batchRow15 row5 validUnder keyOf isMember batchRow7 emptyWins committed committedContrib committedVote addCommitted committedEffect obsolete lookup validVote insertWithin hasKey insert committedMessage messageDone handlePart indexFrom partOfIndex recordPart rowEffect handleAck ackOfIndex recordAck acked valueEffect without filter ready enough countComplete complete maxFaulty decide recipe someShort newEra fromEra
 joiner-reported = ap (processedRead base joinerOpened joinerBatch) completing-read

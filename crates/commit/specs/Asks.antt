@@ -7,6 +7,7 @@ use lib.ListN.{length, getD, set}
 use lib.Dec.{ltb, eqb}
 use Rattle.lists.specs.Lists.{Found, found, nothing, lookup}
 use Rattle.bincode.specs.Sizes.{base}
+use Rattle.fault_log.specs.declared.FaultKind.{FaultKind}
 use Rattle.fault_log.specs.declared.FaultKind.the-variants.{InvalidKeyGenMessageSignature, InvalidKeyGenMessageEra, UnexpectedKeyGenPart, UnexpectedKeyGenAck, SyncKeyGenPart, SyncKeyGenAck}
 use Rattle.fault_log.specs.declared.PartFault.the-variants.{RowCount}
 use Rattle.fault_log.specs.declared.AckFault.the-variants.{ValueCount, MissingPart}
@@ -41,20 +42,27 @@ pub data Asked : Type 0 where
   for-part : ℕ → ℕ → Asked
   for-ack : ℕ → ℕ → Asked
 
--- a message of a node with an index: number of rows or values; no part stands past the places of a map
+-- all is told: a fault of the signer, by the kind of its message
+abbrev pub signerBlamed : MessageHead → FaultKind → FaultKind → Asked
+signerBlamed h of-part of-ack = tells (blamed-signer (cond (h .part) of-part of-ack))
+
+-- without key generation, and where the signer is not in the candidate map (02, CR 2)
+abbrev pub unexpectedOf : MessageHead → Asked
+unexpectedOf h = signerBlamed h UnexpectedKeyGenPart UnexpectedKeyGenAck
+
+-- a message of a node with an index: number of rows or values; no part stands past the places of a map.
 abbrev pub askedAt : List Node → MessageHead → Found ℕ → Asked
-askedAt cs h nothing = tells quiet
+askedAt cs h nothing = unexpectedOf h
 askedAt cs h (found j) =
     cond (eqb (h .count) (length cs))
     (cond (h .part) (for-part j (h .first))
     (cond (ltb (h .first) (base .nodes)) (for-ack (h .first) j)
     (tells (blamed-signer (SyncKeyGenAck MissingPart)))))
-    (cond (h .part) (tells (blamed-signer (SyncKeyGenPart RowCount)))
-    (tells (blamed-signer (SyncKeyGenAck ValueCount))))
+    (signerBlamed h (SyncKeyGenPart RowCount) (SyncKeyGenAck ValueCount))
 
 unfoldable pub askedOf : Found (List Node) → MessageHead → Asked
 askedOf (found cs) h = askedAt cs h (nodeIndex cs (h .id))
-askedOf nothing h = cond (h .part) (tells (blamed-signer UnexpectedKeyGenPart)) (tells (blamed-signer UnexpectedKeyGenAck))
+askedOf nothing h = unexpectedOf h
 
 unfoldable pub asked : ℕ → List Node → Found (List Node) → MessageHead → Asked
 asked era ns cand h =

@@ -12,7 +12,7 @@ ghost use Rattle.key_gen.specs.KeyGen as gen;
 ghost use Rattle.key_gen.specs.declared.Proposal.{Proposal};
 ghost use Rattle.key_gen_state.specs.KeyGenState as running;
 ghost use Rattle.steps.specs.Steps.{toldBy, firstVerdict, otherVerdicts};
-ghost use Rattle.commit.specs.Asks.{asked, askedOf, saidTold, saidAsk, Within, Stepping, partStep, ackStep, asksDone};
+ghost use Rattle.commit.specs.Asks.{asked, signerBlamed, unexpectedOf, askedOf, saidTold, saidAsk, Within, Stepping, partStep, ackStep, asksDone};
 ghost use Rattle.commit.specs.Handled.{DueBy, faultsTold, MessagesCommitted};
 ghost use Rattle.commit.specs.Faults.{FaultsBy};
 use crate::faults::put_fault;
@@ -132,12 +132,33 @@ fn tells(told: MessageTold) -> Ask
     }
 }
 
-// What a message asks where key generation runs.
+// A fault of the signer, by the kind of its message.
+fn blames(h: MessageHead, of_part: FaultKind, of_ack: FaultKind) -> Ask
+    ensures { λ r. ⌜ (saidAsk (r .place) (r .what) ≡ signerBlamed h «of_part» «of_ack») × (r .place < base .nodes) × Within (r .what) ⌝ }
+{
+    if h.part {
+        return tells(MessageTold::BlamedSigner(of_part));
+    }
+    tells(MessageTold::BlamedSigner(of_ack))
+}
+
+// Nothing was expected of the signer.
+fn unexpected(h: MessageHead) -> Ask
+    ensures { λ r. ⌜ (saidAsk (r .place) (r .what) ≡ unexpectedOf h) × (r .place < base .nodes) × Within (r .what) ⌝ }
+{
+    blames(
+        h,
+        FaultKind::UnexpectedKeyGenPart,
+        FaultKind::UnexpectedKeyGenAck,
+    )
+}
+
+// What a message asks where key generation runs. One of a node that leaves is its fault before anything else of it is looked at.
 fn asks_running(h: MessageHead, candidate: PubKeyMap) -> Ask
     ensures { λ r. ⌜ (saidAsk (r .place) (r .what) ≡ askedOf (found (nodesOf candidate)) h) × (r .place < base .nodes) × Within (r .what) ⌝ }
 {
     let NodeIndex::At(j) = network_info::node_index(candidate, h.id) else {
-        return tells(MessageTold::Quiet);
+        return unexpected(h);
     };
     if h.count == candidate.len() as u64 {
         if h.part {
@@ -154,10 +175,11 @@ fn asks_running(h: MessageHead, candidate: PubKeyMap) -> Ask
         }
         return tells(MessageTold::BlamedSigner(FaultKind::SyncKeyGenAck(AckFault::MissingPart)));
     }
-    if h.part {
-        return tells(MessageTold::BlamedSigner(FaultKind::SyncKeyGenPart(PartFault::RowCount)));
-    }
-    tells(MessageTold::BlamedSigner(FaultKind::SyncKeyGenAck(AckFault::ValueCount)))
+    blames(
+        h,
+        FaultKind::SyncKeyGenPart(PartFault::RowCount),
+        FaultKind::SyncKeyGenAck(AckFault::ValueCount),
+    )
 }
 
 // What a message asks: era, then signature, then key generation.
@@ -171,15 +193,12 @@ fn asks(h: MessageHead, era: u64, map: PubKeyMap, running: bool, candidate: PubK
         if running {
             return asks_running(h, candidate);
         }
-        if h.part {
-            return tells(MessageTold::BlamedSigner(FaultKind::UnexpectedKeyGenPart));
-        }
-        return tells(MessageTold::BlamedSigner(FaultKind::UnexpectedKeyGenAck));
+        return unexpected(h);
     }
     tells(MessageTold::BlamedProposer(FaultKind::InvalidKeyGenMessageSignature))
 }
 
-// Key generation's word on a message. A refusal is row 6, which was looked for before.
+// Key generation's word on a message.
 fn told_by(outcome: KeyOutcome) -> MessageTold
     ensures { λ r. ⌜ saidTold r ≡ toldBy (gen.saidOutcome outcome) ⌝ }
 {
@@ -187,7 +206,6 @@ fn told_by(outcome: KeyOutcome) -> MessageTold
         KeyOutcome::Quiet => MessageTold::Quiet,
         KeyOutcome::AckDue(i) => MessageTold::Owed(i),
         KeyOutcome::Faulty(k) => MessageTold::BlamedSigner(k),
-        KeyOutcome::Refused(_) => MessageTold::Quiet,
     }
 }
 

@@ -181,10 +181,11 @@ startedOf r = saidStart (r .outcome) (stateOf (r .state))
 abbrev pub joinedOf : JoinStarted → Outcome JoinAnswer
 joinedOf r = saidStart (r .outcome) (record { state = stateOf (r .state); due = r .due })
 
--- the struct of a state that is opened: nothing was reported
+-- nothing was reported
 abbrev pub noStamp : ReportStamp
 noStamp = record { given = false; epoch = 0; era = 0 }
 
+-- the struct of a state that is opened
 abbrev pub openedHeld : ℕ → ℕ → ℕ → PubKeyMap → Params → DynamicHoneyBadger
 openedHeld id key era m p = record { params = p; «vote_counter» = newHeld id key m era; «key_gen_state» = running.noKeyGen; store = noStore; last = noStamp }
 

@@ -9,12 +9,12 @@ use Rattle.util.specs.MaxFaulty.{maxFaulty}
 use Rattle.honey_badger.specs.EncryptionSchedule.{sameFields, row14, encrypts, useOnEpoch, scheduleBytes}
 use Rattle.change.specs.Change.{sameChange, changeBytes}
 use Rattle.votes.specs.Votes.{voteBytes}
-use Rattle.network_info.specs.NetworkInfo.{keyOf}
+use Rattle.network_info.specs.NetworkInfo.{indexFrom, keyOf}
 use Rattle.reference.specs.Winner.{votersFor, wonBy, firstPast}
-use Rattle.reference.specs.Step.{refVote, refMessage, refContrib, refContribs, isReady, refDecide, anyStray, refRow6, refRow7, refSteps, refBatch}
+use Rattle.reference.specs.Step.{refVote, isSigned, refMessage, refContrib, refContribs, isReady, refDecide, refRow7, refSteps, refBatch}
 use Rattle.examples.specs.Rows.{Holds, rows}
 
 pub examples : All Holds rows
-unfolding rows maxFaulty filter votersFor wonBy firstPast sameChange eqList sameNode sameFields bytesOf scheduleBytes changeBytes voteBytes row14 encrypts useOnEpoch lookup insert hasKey insertWithin keyOf refVote refMessage refContrib refContribs isReady refDecide refRow6 anyStray refRow7 refSteps refBatch
+unfolding rows maxFaulty filter votersFor wonBy firstPast sameChange eqList sameNode sameFields bytesOf scheduleBytes changeBytes voteBytes row14 encrypts useOnEpoch lookup insert hasKey insertWithin indexFrom keyOf refVote isSigned refMessage refContrib refContribs isReady refDecide refRow7 refSteps refBatch
 examples =
-    (refl, (refl, (refl, (refl, (refl, (refl, (refl, (refl, (refl, (refl, (refl, (refl, (refl, ((refl, refl), (refl, (refl, (refl, tt)))))))))))))))))
+    (refl, (refl, (refl, (refl, (refl, (refl, (refl, (refl, (refl, (refl, (refl, (refl, (refl, ((refl, refl), (refl, (refl, (refl, (refl, tt))))))))))))))))))

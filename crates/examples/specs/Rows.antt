@@ -1,4 +1,4 @@
--- 01, "Half-marathon examples": the marked ones (*), in their order. A later layer adds its own kind of row here.
+-- 01, "Half-marathon examples": the marked ones (*), in their order; and 02's key messages of a leaving node. A later layer adds its own kind of row here.
 use Prim.Native.Nat.{ℕ, zero, suc, _+_}
 use mathlib.Core.Path.{_≡_}
 use mathlib.Core.List.{List, [], _∷_}
@@ -14,6 +14,10 @@ use Rattle.change.specs.Change.{ChangeOf, nodeChange, encryptionSchedule}
 use Rattle.pub_key_map.specs.declared.Node.{Node}
 use Rattle.votes.specs.Votes.{VoteOf, SignedVoteOf, voteBytes}
 use Rattle.params.specs.declared.SubsetHandlingStrategy.the-variants.{Incremental}
+use Rattle.key_gen_message.specs.KeyGenMessage.{part, ack, SignedKeyGenMsgOf}
+use Rattle.fault_log.specs.declared.FaultKind.{FaultKind}
+use Rattle.fault_log.specs.declared.FaultKind.the-variants.{UnexpectedKeyGenPart, UnexpectedKeyGenAck}
+use Rattle.fault_log.specs.declared.Fault.{Fault}
 use Rattle.internal_contrib.specs.InternalContrib.{ContribOf}
 use Rattle.reference.specs.Reference.{PartRef, RefState, openRef}
 use Rattle.reference.specs.Winner.{firstPast}
@@ -28,6 +32,8 @@ pub data Row : Type 0 where
   finished : ℕ → List ℕ → Bool → Row
   -- the epoch that a batch with an inner epoch reports, and the era after it
   moved : RefState → ℕ → List ContribOf → ℕ → ℕ → Row
+  -- the faults that a batch with an inner epoch reports
+  blamed : RefState → ℕ → List ContribOf → List Fault → Row
   -- a vote as bytes
   encoded : VoteOf → List ℕ → Row
   -- whether a schedule encrypts an epoch
@@ -71,12 +77,45 @@ voteOf era i c = record { vote = record { change = c; era = era; num = 0 }; vote
 abbrev pub twoFor : ℕ → ChangeOf → List ContribOf
 twoFor era c = record { id = 3; user = []; messages = []; votes = voteOf era 1 c ∷ voteOf era 2 c ∷ [] } ∷ []
 
+-- the faults of a report
+abbrev pub faultsOf : Outcome RefReport → Outcome (List Fault)
+faultsOf (done r) = done (r .faults)
+faultsOf (refused n) = refused n
+
+-- the fourth of the nodes leaves: key generation runs for the other three
+abbrev pub leavesIn : ℕ → RefState
+leavesIn era =
+    record { era = era; nodes = four; params = inEra era .params; votes = []; candidate = found (record { nodes = nodesFrom 1 3; parts = [] }) }
+
+-- what a node has signed in an era: a part with so many rows, or an ack of the part of the proposer with an index
+abbrev pub partOf : ℕ → ℕ → List ℕ → SignedKeyGenMsgOf
+partOf era i rows = record { era = era; id = i; message = part (record { commit = i + 100; rows = rows }); sig = i + 10 }
+
+abbrev pub ackOf : ℕ → ℕ → ℕ → SignedKeyGenMsgOf
+ackOf era i proposer = record { era = era; id = i; message = ack (record { proposer = proposer; values = 7 ∷ [] }); sig = i + 10 }
+
+-- the fourth node's part, as it should be and without rows, its ack of a part that nobody sent, and a second copy of the first, in a contribution of the first node; the
+-- second node's part stands among them
+abbrev pub leaving : ℕ → List ContribOf
+leaving era =
+    record {
+      id = 1;
+      user = [];
+      messages = partOf era 4 (7 ∷ 8 ∷ 9 ∷ []) ∷ partOf era 4 [] ∷ partOf era 2 (7 ∷ 8 ∷ 9 ∷ []) ∷ ackOf era 4 9 ∷ partOf era 4 (7 ∷ 8 ∷ 9 ∷ []) ∷ [];
+      votes = [];
+    }
+    ∷ []
+
+abbrev pub faultOf : ℕ → FaultKind → Fault
+faultOf i k = record { «node_id» = i; kind = k }
+
 -- what a row claims
 abbrev pub Holds : Row → Type 0
 Holds (faulty n f) = maxFaulty n ≡ f
 Holds (won n choices r) = firstPast (maxFaulty n) (votesFrom 1 choices) ≡ r
 Holds (finished n acks b) = isReady (record { nodes = nodesFrom 1 n; parts = partsFrom 0 acks }) ≡ b
 Holds (moved s inner cs epoch era) = (epochOf (refBatch base s inner cs .answer) ≡ done epoch) × (refBatch base s inner cs .state .era ≡ era)
+Holds (blamed s inner cs fs) = faultsOf (refBatch base s inner cs .answer) ≡ done fs
 Holds (encoded v bytes) = voteBytes v ≡ bytes
 Holds (encrypted x epoch b) = useOnEpoch x epoch ≡ done b
 
@@ -115,4 +154,6 @@ rows =
     -- TickTock(2,3): epoch 2 yes, 3 no
     ∷ encrypted (TickTock 2 3) 2 true
     ∷ encrypted (TickTock 2 3) 3 false
+    -- 02, CR 2: each key message of a leaving node is one fault of it, whatever is wrong with it, and the batch is reported
+    ∷ blamed (leavesIn 5) 3 (leaving 5) (faultOf 4 UnexpectedKeyGenPart ∷ faultOf 4 UnexpectedKeyGenPart ∷ faultOf 4 UnexpectedKeyGenAck ∷ faultOf 4 UnexpectedKeyGenPart ∷ [])
     ∷ []

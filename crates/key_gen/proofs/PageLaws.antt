@@ -1,4 +1,4 @@
--- Single sentences of the scope document, step 5, said of one part and of one ack: whom they are of, what is recorded, what is told, with every verdict.
+-- Single sentences of documents 01 (step 5) and 02, said of one part and of one ack: whom they are of, what is recorded, what is told, with every verdict.
 -- Assumes nothing.
 use Prim.Native.Nat.{ℕ}
 use mathlib.Core.Path.{_≡_}
@@ -9,10 +9,10 @@ use borrow.Author.Tests.{eq-eqb, ne-eqb}
 use Rattle.lists.specs.Lists.{Found, found, nothing, lookup, insert}
 use Rattle.network_info.specs.NetworkInfo.{nodeIndex, isMember}
 use Rattle.sync_key_gen.specs.SyncKeyGen.{PartOf, AckOf}
-use Rattle.fault_log.specs.declared.FaultKind.the-variants.{SyncKeyGenPart, SyncKeyGenAck}
+use Rattle.fault_log.specs.declared.FaultKind.the-variants.{UnexpectedKeyGenPart, UnexpectedKeyGenAck, SyncKeyGenPart, SyncKeyGenAck}
 use Rattle.fault_log.specs.declared.PartFault.the-variants.{RowCount, MultipleParts, DecryptRow, DeserializeRow, RowCommitment}
 use Rattle.fault_log.specs.declared.AckFault.the-variants.{ValueCount, MissingPart, DecryptValue, DeserializeValue, ValueCommitment}
-use Rattle.key_gen.specs.KeyGen.{ProposalOf, KeyGenOf, quiet, ack-due, fault, refused, rowEffect, valueEffect, acked, recordPart, partOfIndex, handlePart, recordAck, ackOfIndex, handleAck}
+use Rattle.key_gen.specs.KeyGen.{ProposalOf, KeyGenOf, quiet, ack-due, fault, rowEffect, valueEffect, acked, recordPart, partOfIndex, handlePart, recordAck, ackOfIndex, handleAck}
 
 -- the part recorded of the node with index i, or none
 abbrev partAt : KeyGenOf → ℕ → Found ProposalOf
@@ -24,10 +24,11 @@ withPart g q = record { our-id = g .our-id; nodes = g .nodes; parts = insert (λ
 
 -- a part, whatever its verdict
 module _ (g : KeyGenOf) (id : ℕ) (p : PartOf) where
-  -- row 6: the signer is not in the candidate map
-  pub part-stray : nodeIndex (g .nodes) id ≡ nothing → (v : ℕ) → handlePart g id p v ≡ record { key-gen = g; effect = refused 6 }
+  -- 02, CR 2: "A station being removed": its signer is not in the candidate map. "a fault on that signer, `UnexpectedKeyGenPart`": whatever its rows, its commitment
+  -- and its verdict are, and nothing is recorded
+  pub part-leaving : nodeIndex (g .nodes) id ≡ nothing → (v : ℕ) → handlePart g id p v ≡ record { key-gen = g; effect = fault UnexpectedKeyGenPart }
   unfolding handlePart
-  part-stray e v = rw e
+  part-leaving e v = rw e
 
   module _ (i : ℕ) (signer : nodeIndex (g .nodes) id ≡ found i) where
     -- "A part: wrong row count, .. are faults on the signer", before anything else of it is looked at
@@ -78,10 +79,10 @@ module _ (g : KeyGenOf) (id : ℕ) (p : PartOf) where
 
 -- an ack, whatever its verdict
 module _ (g : KeyGenOf) (id : ℕ) (a : AckOf) where
-  -- row 6, as for a part
-  pub ack-stray : nodeIndex (g .nodes) id ≡ nothing → (v : ℕ) → handleAck g id a v ≡ record { key-gen = g; effect = refused 6 }
+  -- 02, CR 2: ".. or `UnexpectedKeyGenAck`", whatever its values, its proposer index and its verdict are
+  pub ack-leaving : nodeIndex (g .nodes) id ≡ nothing → (v : ℕ) → handleAck g id a v ≡ record { key-gen = g; effect = fault UnexpectedKeyGenAck }
   unfolding handleAck
-  ack-stray e v = rw e
+  ack-leaving e v = rw e
 
   module _ (j : ℕ) (signer : nodeIndex (g .nodes) id ≡ found j) where
     -- "An ack: value count, .. are faults", before anything else of it is looked at

@@ -13,7 +13,7 @@ use Rattle.pub_key_map.specs.PubKeyMap.{nodesOf}
 use Rattle.network_info.specs.NetworkInfo.{nodeIndex, isMember}
 use Rattle.sync_key_gen.specs.SyncKeyGen.{PartOf, AckOf}
 use Rattle.fault_log.specs.declared.FaultKind.{FaultKind}
-use Rattle.fault_log.specs.declared.FaultKind.the-variants.{SyncKeyGenPart, SyncKeyGenAck}
+use Rattle.fault_log.specs.declared.FaultKind.the-variants.{UnexpectedKeyGenPart, UnexpectedKeyGenAck, SyncKeyGenPart, SyncKeyGenAck}
 use Rattle.fault_log.specs.declared.PartFault.the-variants.{RowCount, MultipleParts, DecryptRow, DeserializeRow, RowCommitment}
 use Rattle.fault_log.specs.declared.AckFault.the-variants.{ValueCount, MissingPart, DecryptValue, DeserializeValue, ValueCommitment}
 use Rattle.key_gen.specs.declared.Proposal.{Proposal}
@@ -51,12 +51,11 @@ withParts g ps = record { our-id = g .our-id; nodes = g .nodes; parts = ps }
 abbrev pub byProposer : ProposalOf → ℕ
 byProposer p = p .proposer
 
--- what one key message does: nothing to tell, an ack is due for a proposer's part, a fault of the signer, or a refusal
+-- what one key message does: nothing to tell, an ack is due for a proposer's part, or a fault of the signer
 pub data Effect : Type 0 where
   quiet : Effect
   ack-due : ℕ → Effect
   fault : FaultKind → Effect
-  refused : ℕ → Effect
 
 pub record Handled : Type 0 where
   pub key-gen : KeyGenOf
@@ -93,12 +92,13 @@ unfoldable pub partOfIndex : KeyGenOf → ℕ → PartOf → ℕ → Found Propo
 partOfIndex g i p v (found q) = cond (eqb (q .commit) (p .commit)) (handled g quiet) (handled g (fault (SyncKeyGenPart MultipleParts)))
 partOfIndex g i p v nothing = recordPart g i (p .commit) v
 
+-- 02, CR 2: a signer that is not in the candidate map is at fault, before anything else of its part is looked at
 abbrev pub partBy : KeyGenOf → PartOf → ℕ → Found ℕ → Handled
 partBy g p v (found i) =
     cond (eqb (length (p .rows)) (nodeCount g))
     (partOfIndex g i p v (lookup byProposer (g .parts) i))
     (handled g (fault (SyncKeyGenPart RowCount)))
-partBy g p v nothing = handled g (refused 6)
+partBy g p v nothing = handled g (fault UnexpectedKeyGenPart)
 
 unfoldable pub handlePart : KeyGenOf → ℕ → PartOf → ℕ → Handled
 handlePart g id p v = partBy g p v (nodeIndex (g .nodes) id)
@@ -122,12 +122,13 @@ unfoldable pub ackOfIndex : KeyGenOf → ℕ → ℕ → Found ProposalOf → Ha
 ackOfIndex g j v (found q) = cond (isHere (lookup (λ x. x) (q .acks) j)) (handled g quiet) (recordAck g q j v)
 ackOfIndex g j v nothing = handled g (fault (SyncKeyGenAck MissingPart))
 
+-- 02, CR 2: likewise of an ack
 abbrev pub ackBy : KeyGenOf → AckOf → ℕ → Found ℕ → Handled
 ackBy g a v (found j) =
     cond (eqb (length (a .values)) (nodeCount g))
     (ackOfIndex g j v (lookup byProposer (g .parts) (a .proposer)))
     (handled g (fault (SyncKeyGenAck ValueCount)))
-ackBy g a v nothing = handled g (refused 6)
+ackBy g a v nothing = handled g (fault UnexpectedKeyGenAck)
 
 unfoldable pub handleAck : KeyGenOf → ℕ → AckOf → ℕ → Handled
 handleAck g id a v = ackBy g a v (nodeIndex (g .nodes) id)
@@ -185,4 +186,3 @@ abbrev pub saidOutcome : KeyOutcome → Effect
 saidOutcome outcome.Quiet = quiet
 saidOutcome (outcome.AckDue i) = ack-due i
 saidOutcome (outcome.Faulty k) = fault k
-saidOutcome (outcome.Refused n) = refused n

@@ -73,12 +73,11 @@ pub struct KeyGen {
     pub proposals: [Proposal; PubKeyMap::LIMIT],
 }
 
-// What a key message did: nothing to tell, an ack is due for a proposer, a fault of the signer, or a refusal.
+// What a key message did: nothing to tell, an ack is due for a proposer, or a fault of the signer.
 pub enum KeyOutcome {
     Quiet,
     AckDue(usize),
     Faulty(FaultKind),
-    Refused(u8),
 }
 
 pub struct KeyHandled {
@@ -232,7 +231,7 @@ impl KeyGen {
         }
     }
 
-    // A part signed by a node.
+    // A part signed by a node; one of a node that is not in the map is a fault, whatever else it holds.
     pub fn handle_part(self, signer: u32, part: Part, verdict: u8) -> KeyHandled
         ensures { λ r. ⌜ handled (keyGenOf (r .«key_gen»)) (saidOutcome (r .outcome)) ≡ handlePart (keyGenOf self) signer (partOf part) verdict ⌝ }
     {
@@ -240,7 +239,7 @@ impl KeyGen {
         let NodeIndex::At(i) = network_info::node_index(map, signer) else {
             return KeyHandled {
                 key_gen: self,
-                outcome: KeyOutcome::Refused(6),
+                outcome: KeyOutcome::Faulty(FaultKind::UnexpectedKeyGenPart),
             };
         };
         let rows = part.rows;
@@ -290,7 +289,7 @@ impl KeyGen {
         }
     }
 
-    // An ack signed by a node. Its proposer index is any number; one without a recorded part is missing.
+    // An ack signed by a node, likewise. Its proposer index is any number; one without a recorded part is missing.
     pub fn handle_ack(self, signer: u32, ack: Ack, verdict: u8) -> KeyHandled
         ensures { λ r. ⌜ handled (keyGenOf (r .«key_gen»)) (saidOutcome (r .outcome)) ≡ handleAck (keyGenOf self) signer (ackOf ack) verdict ⌝ }
     {
@@ -298,7 +297,7 @@ impl KeyGen {
         let NodeIndex::At(j) = network_info::node_index(map, signer) else {
             return KeyHandled {
                 key_gen: self,
-                outcome: KeyOutcome::Refused(6),
+                outcome: KeyOutcome::Faulty(FaultKind::UnexpectedKeyGenAck),
             };
         };
         let values = ack.values;

@@ -12,7 +12,7 @@ use Rattle.key_gen_state.specs.KeyGenState as running
 use Rattle.internal_contrib.specs.InternalContrib.{readBatch}
 use Rattle.internal_contrib.specs.Index.{contribsIn}
 use Rattle.dynamic_honey_badger.specs.Asked.{row5}
-use Rattle.dynamic_honey_badger.specs.State.{eraOf, nodesIn, candidateNodes}
+use Rattle.dynamic_honey_badger.specs.State.{eraOf, nodesIn}
 use Rattle.steps.specs.Steps.{committed}
 use Rattle.commit.specs.declared.Committed.{Committed}
 use Rattle.commit.specs.declared.tally.Tally.{Tally}
@@ -41,35 +41,34 @@ is-epoch o n e = subst IsEpoch (sym e) tt
 pub fits-epoch : (o : Opening) (n : ℕ) → o ≡ opening.Epoch n → EpochFits o → n + 1 < 2 ^ 64
 fits-epoch o n e f = subst EpochFits e f
 
-module _ (b : BatchCall) (era : ℕ) (ns : List Node) (k : KeyGenState) (o : Opened)
-    (h : OpenedAs o (opened base era ns (candidateNodes (running.stateOf k)) b) (readBatch base (b .bytes))) where
+module _ (b : BatchCall) (era : ℕ) (o : Opened) (h : OpenedAs o (opened base era b) (readBatch base (b .bytes))) where
   -- the next epoch is a number of eight bytes
   pub opening-fits : EpochFits (o .opening)
   opening-fits = go (o .opening) refl
     where
       go : (x : Opening) → o .opening ≡ x → EpochFits x
       go (opening.Epoch epoch) q =
-          let v = opened-read base era ns (candidateNodes (running.stateOf k)) b epoch (sym (h .0) ∙ ap saidOpening q) in
+          let v = opened-read base era b epoch (sym (h .0) ∙ ap saidOpening q) in
           epoch-fits epoch (ap row5 (v .4) ∙ v .3)
       go (opening.Refused n) q = tt
 
-  module _ (bytes : Bytes (b .bytes)) (t : Tally) (d : Committed) (l l′ : Lists)
+  module _ (ns : List Node) (k : KeyGenState) (bytes : Bytes (b .bytes)) (t : Tally) (d : Committed) (l l′ : Lists)
       (c : BatchCommitted (b .bytes) era ns (b .verdicts) t (running.stateOf k) (o .index) d l l′) (same : contribsIn (o .index) ≡ [] → d .state ≡ k) where
     pub worked-as : WorkedAs b era ns t k (record { opening = o .opening; index = o .index; committed = d }) l l′
     unfolding batchRow7
     worked-as st e m g v r = go (o .opening) refl
       where
-        said : opened base era ns (candidateNodes (running.stateOf k)) b ≡ opened base (eraOf st) (nodesIn st) (candidateNodes (st .key-gen)) b
-        said = λ j. opened base (sym e j) (sym m j) (candidateNodes (sym g j)) b
+        said : opened base era b ≡ opened base (eraOf st) b
+        said = ap (λ (x : ℕ). opened base x b) (sym e)
 
-        by-state : OpenedAs o (opened base (eraOf st) (nodesIn st) (candidateNodes (st .key-gen)) b) (readBatch base (b .bytes))
+        by-state : OpenedAs o (opened base (eraOf st) b) (readBatch base (b .bytes))
         by-state = subst (λ (x : Outcome ℕ). OpenedAs o x (readBatch base (b .bytes))) said h
 
         begun : (epoch : ℕ) → o .opening ≡ opening.Epoch epoch → Working st b epoch (record { opening = o .opening; index = o .index; committed = d }) l l′
         begun epoch q =
             let x = opened-epoch st b o by-state epoch q bytes in
             let w = committed base st (b .verdicts) (x .cs) in
-            let was : opened base (eraOf st) (nodesIn st) (candidateNodes (st .key-gen)) b ≡ done epoch = sym (by-state .0) ∙ ap saidOpening q in
+            let was : opened base (eraOf st) b ≡ done epoch = sym (by-state .0) ∙ ap saidOpening q in
             record {
               contribs = x .cs;
               behind = x .next;

@@ -302,8 +302,6 @@ fn work(
 {
     let o = process_output::open_batch(
         era,
-        map,
-        state,
         batch_era,
         inner,
         batch,

@@ -19,7 +19,7 @@ use Rattle.dynamic_honey_badger.specs.Asked.{row5}
 use Rattle.dynamic_honey_badger.specs.State.{StateOf}
 use Rattle.steps.specs.Steps.{WorkOf, oweTo, committed}
 use Rattle.decision.specs.Decision.{Decided, decide}
-use Rattle.process_output.specs.Refusals.{batchRow1, batchRow4, batchRow15, batchRow6, batchRow7}
+use Rattle.process_output.specs.Refusals.{batchRow1, batchRow4, batchRow15, batchRow7}
 use Rattle.process_output.specs.Process.{BatchCall, processedContribs, processed}
 
 -- the due list "in order of arising": those of the messages first, then that of the decision, where there are places for all
@@ -35,7 +35,7 @@ owed-all z (y ∷ ys) xs h =
 module _ (z : Sizes) (s : StateOf) (b : BatchCall) (cs : List ContribOf) (c : ℕ) (read : readBatch z (b .bytes) ≡ value cs c)
     (faults : z .faults ≤ b .fault-places) (places : z .due ≤ b .due-places)
     (judged : batchRow4 cs (b .verdicts) ≡ false) (now : b .era ≡ s .counter .era) (early : row5 (s .counter .era + b .inner) ≡ false)
-    (known : batchRow6 s cs ≡ false) (full : batchRow7 z s (b .verdicts) cs ≡ false)
+    (full : batchRow7 z s (b .verdicts) cs ≡ false)
     (w : WorkOf) (work : committed z s (b .verdicts) cs ≡ w)
     -- 01, step 1: "Batch epoch = era + inner epoch"; step 6: the new era is "batch epoch + 1"
     (d : Decided) (decided : decide z (s .counter .era + b .inner + 1) (w .state) ≡ d) where
@@ -68,7 +68,7 @@ module _ (z : Sizes) (s : StateOf) (b : BatchCall) (cs : List ContribOf) (c : �
   unfolding processed processedContribs batchRow1 batchRow15
   reported-as h =
       rw
-      (le-ltb (b .fault-places) (z .faults) faults, le-ltb (b .due-places) (z .due) places, read, judged, eq-eqb (b .era) (s .counter .era) now, early, known, full, work, decided, owed-all z (d .due) (w .due) h)
+      (le-ltb (b .fault-places) (z .faults) faults, le-ltb (b .due-places) (z .due) places, read, judged, eq-eqb (b .era) (s .counter .era) now, early, full, work, decided, owed-all z (d .due) (w .due) h)
 
 -- 02, CR 1: "15, batch era is not the engine's, after 4 and before 5": a batch that rows 1 to 4 let pass, of an earlier or a later era, whatever its epoch would be
 pub other-era : (z : Sizes) (s : StateOf) (b : BatchCall) (cs : List ContribOf) (c : ℕ) → readBatch z (b .bytes) ≡ value cs c → z .faults ≤ b .fault-places → z .due ≤ b .due-places

@@ -1,16 +1,13 @@
--- Whether a test holds of some element: looked for place by place, and in items of an accepted run that are read again.
+-- Whether a test holds of some element: looked for place by place.
 -- Assumes nothing.
 use Prim.Native.Nat.{ℕ, _+_, _≤_, _<_}
-use mathlib.Core.Path.{_≡_, refl, sym, _∙_}
-use mathlib.Core.List.{List, [], _∷_}
-use mathlib.Core.Bool.{Bool, true, false, _||_}
+use mathlib.Core.Path.{_≡_}
+use mathlib.Core.List.{List}
+use mathlib.Core.Bool.{Bool, true, false}
 use native.Mathlib.Numerals.{add-one}
 use lib.ListN.{length, drop, getD}
 use lib.Seq.{drop-cons}
 use Rattle.lists.proofs.ListLaws.{rest-none}
-use Rattle.bincode.specs.Read.{Read, value}
-use Rattle.bincode.specs.Items.{items, foldl}
-use Rattle.bincode.proofs.RereadLaws.{Rereading, reread-end}
 use Rattle.process_output.specs.Refusals.{some}
 
 module _ {A : Type 0} (p : A → Bool) where
@@ -30,32 +27,3 @@ module _ {A : Type 0} (p : A → Bool) where
     pub some-past : length xs ≤ i → some p (drop i xs) ≡ false
     unfolding some
     some-past h = rw (rest-none xs i h)
-
-  -- whether it held before, or holds of this element
-  abbrev pub seen : Bool → A → Bool
-  seen b x = b || p x
-
-  -- once it held, it stays so
-  fold-seen : (xs : List A) → foldl seen true xs ≡ true
-  fold-seen [] = refl
-  fold-seen (x ∷ xs) = fold-seen xs
-
-  -- a fold that starts with no says whether it holds of some element
-  fold-some : (xs : List A) → foldl seen false xs ≡ some p xs
-  unfolding some
-  fold-some [] = refl
-  fold-some (x ∷ xs) = go (p x) (fold-some xs)
-    where
-      go : (b : Bool) → foldl seen false xs ≡ some p xs → foldl seen b xs ≡ (b || some p xs)
-      go true e = fold-seen xs
-      go false e = e
-
--- in items that are read again
-module _ {S A : Type 0} (rd : S → ℕ → Read A) (next : S → A → S) (p : A → Bool) (n : ℕ) (st₀ : S) (at₀ i : ℕ) (st : S) (at : ℕ) where
-  -- an item was met of which it holds
-  pub some-met : Rereading rd next (seen p) n st₀ at₀ false i st at true → (xs : List A) (c : ℕ) → items rd next n st₀ at₀ ≡ value xs c → true ≡ some p xs
-  some-met w xs c e = let q = w .rest xs c e in sym (fold-seen p (q .0)) ∙ q .2 ∙ fold-some p xs
-
-  -- none was, after the last
-  pub some-none : Rereading rd next (seen p) n st₀ at₀ false i st at false → n ≤ i → (xs : List A) (c : ℕ) → items rd next n st₀ at₀ ≡ value xs c → false ≡ some p xs
-  some-none w h xs c e = reread-end rd next (seen p) n st₀ at₀ false i st at false w h xs c e ∙ fold-some p xs

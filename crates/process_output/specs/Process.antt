@@ -16,7 +16,7 @@ use Rattle.dynamic_honey_badger.specs.Asked.{row5}
 use Rattle.dynamic_honey_badger.specs.State.{StateOf, Stamp, eraOf, nodesIn, withLast}
 use Rattle.steps.specs.Steps.{WorkOf, oweTo, committed}
 use Rattle.decision.specs.Decision.{Decided, decide}
-use Rattle.process_output.specs.Refusals.{batchRow1, batchRow4, batchRow15, batchRow6, batchRow7}
+use Rattle.process_output.specs.Refusals.{batchRow1, batchRow4, batchRow15, batchRow7}
 
 -- what a host passes with a batch: the era in which it was agreed (02, CR 1) and its inner epoch there, batch bytes, verdict bytes, and how long the two lent
 -- lists are
@@ -72,14 +72,13 @@ processedContribs z s b cs =
     cond (batchRow4 cs (b .verdicts)) (denied s 4)
     (cond (batchRow15 (eraOf s) (b .era)) (denied s 15)
     (cond (row5 (eraOf s + b .inner)) (denied s 5)
-    (cond (batchRow6 s cs) (denied s 6)
     (cond (batchRow7 z s (b .verdicts) cs) (denied s 7)
-    (finished z s (eraOf s + b .inner) (committed z s (b .verdicts) cs))))))
+    (finished z s (eraOf s + b .inner) (committed z s (b .verdicts) cs)))))
 
 abbrev pub processedRead : Sizes → StateOf → BatchCall → Read (List ContribOf) → ProcessedOf
 processedRead z s b (value cs c) = processedContribs z s b cs
 processedRead z s b (refuse n) = denied s n
 
--- order: 1; reading, 2 and 3; 4; 15; 5; 6; 7
+-- order: 1; reading, 2 and 3; 4; 15; 5; 7
 unfoldable pub processed : Sizes → StateOf → BatchCall → ProcessedOf
 processed z s b = cond (batchRow1 z (b .fault-places) (b .due-places)) (denied s 1) (processedRead z s b (readBatch z (b .bytes)))

@@ -1,8 +1,9 @@
--- Steps 1 and 6 to 8, and the table's rows 5 to 7, sentence by sentence: what a batch that was read leaves of the reference state, and its answer, written out.
+-- Steps 1 and 6 to 8, and the table's rows 5 and 7, sentence by sentence: what a batch that was read leaves of the reference state, and its answer, written out.
+-- Row 6 has no condition (02, CR 2).
 -- Assumes nothing.
 use Prim.Native.Nat.{ℕ, _+_, _≤_, _<_}
 use mathlib.Core.Path.{_≡_, refl}
-use mathlib.Core.List.{List, [], _∷_, List·Memᴰ}
+use mathlib.Core.List.{List, [], _∷_}
 use mathlib.Core.Bool.{Bool, true, false, cond}
 use lib.ListN.{length}
 use borrow.Author.Tests.{lt-ltb, le-ltb}
@@ -15,16 +16,14 @@ use Rattle.pub_key_map.specs.PubKeyMap.{sameNodes}
 use Rattle.pub_key_map.proofs.MapLaws.{map-true, map-refl}
 use Rattle.honey_badger.specs.declared.EncryptionSchedule.{EncryptionSchedule}
 use Rattle.change.specs.Change.{ChangeOf, nodeChange, encryptionSchedule, none, inProgress, complete}
-use Rattle.key_gen_message.specs.KeyGenMessage.{SignedKeyGenMsgOf}
 use Rattle.internal_contrib.specs.InternalContrib.{ContribOf}
 use Rattle.fault_log.specs.declared.Fault.{Fault}
 use Rattle.reference.specs.Reference.{PartRef, CandidateRef, RefState}
 use Rattle.reference.specs.Winner.{Wins, NonePast}
-use Rattle.reference.specs.Terms.{Ready, Unready, Stray}
+use Rattle.reference.specs.Terms.{Ready, Unready}
 use Rattle.reference.specs.Step.{refContribs, isCandidateRef, refWinner, refDecide, refRow5, refRow7, refSteps, refBatch}
 use Rattle.reference.proofs.WinnerLaws.{wins-first, none-first}
 use Rattle.reference.proofs.ReadyLaws.{ready-true, none-ready}
-use Rattle.reference.proofs.StrayLaws.{row6-true, row6-false}
 
 -- the test of row 5
 epoch-fits : (epoch : ℕ) → epoch ≤ 18446744073709551614 → refRow5 epoch ≡ false
@@ -39,18 +38,12 @@ unfolding refBatch
 row-5 z s inner cs h = rw (epoch-over (s .era + inner) h)
 
 module _ (z : Sizes) (s : RefState) (inner : ℕ) (cs : List ContribOf) (fits : s .era + inner ≤ 18446744073709551614) where
-  -- row 6, behind row 5: a stray message in some contribution
-  pub row-6 : (c : ContribOf) → List·Memᴰ c cs → (m : SignedKeyGenMsgOf) → List·Memᴰ m (c .messages) → Stray s m → refBatch z s inner cs ≡ record { state = s; answer = refused 6 }
-  unfolding refBatch
-  row-6 c i m j h = rw (epoch-fits (s .era + inner) fits, row6-true s cs c i m j h)
-
-  -- no message is stray; the votes and key messages leave the state t and the faults fs
-  module _ (no-stray : (c : ContribOf) → List·Memᴰ c cs → (m : SignedKeyGenMsgOf) → List·Memᴰ m (c .messages) → Stray s m → ⊥)
-      (t : RefState) (fs : List Fault) (committed : refContribs z s cs ≡ record { state = t; faults = fs }) where
+  -- the votes and key messages leave the state t and the faults fs
+  module _ (t : RefState) (fs : List Fault) (committed : refContribs z s cs ≡ record { state = t; faults = fs }) where
     -- what is left of the tests, and who has won
     open-to-7 : refBatch z s inner cs ≡ cond (refRow7 z s cs) (record { state = s; answer = refused 7 }) (refSteps z s (s .era + inner) cs)
     unfolding refBatch
-    open-to-7 = rw (epoch-fits (s .era + inner) fits, row6-false s cs no-stray)
+    open-to-7 = rw (epoch-fits (s .era + inner) fits)
 
     winner-now : (c : ChangeOf) → Wins (maxFaulty (length (t .nodes))) (t .votes) c → refWinner t ≡ found c
     winner-now c h = wins-first (maxFaulty (length (t .nodes))) (t .votes) c h
@@ -74,7 +67,7 @@ module _ (z : Sizes) (s : RefState) (inner : ℕ) (cs : List ContribOf) (fits : 
 
     -- "Otherwise": no key generation runs, or it is not ready
     module _ (unready : (g : CandidateRef) → t .candidate ≡ found g → Unready g) where
-      -- row 7, behind row 6: "winning map empty"
+      -- row 7, behind row 5: "winning map empty"
       pub row-7 : Wins (maxFaulty (length (t .nodes))) (t .votes) (nodeChange []) → refBatch z s inner cs ≡ record { state = s; answer = refused 7 }
       unfolding refRow7
       row-7 h = rw (open-to-7, committed, none-ready (t .candidate) unready, winner-now (nodeChange []) h)

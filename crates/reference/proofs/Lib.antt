@@ -2,9 +2,10 @@ pub mod WinnerLaws
 pub mod VoteLaws
 pub mod MessageLaws
 pub mod PartLaws
+pub mod LeavingLaws
 pub mod PassedLaws
 pub mod OrderLaws
 pub mod ReadyLaws
-pub mod StrayLaws
 pub mod BatchLaws
 pub mod ReportLaws
+pub mod WithLeaving

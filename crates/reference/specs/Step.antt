@@ -12,7 +12,7 @@ use Rattle.bincode.specs.Items.{foldl}
 use Rattle.util.specs.MaxFaulty.{maxFaulty}
 use Rattle.pub_key_map.specs.declared.Node.{Node}
 use Rattle.pub_key_map.specs.PubKeyMap.{sameNodes}
-use Rattle.network_info.specs.NetworkInfo.{nodeIndex, isMember, keyOf}
+use Rattle.network_info.specs.NetworkInfo.{nodeIndex, keyOf}
 use Rattle.honey_badger.specs.declared.EncryptionSchedule.{EncryptionSchedule}
 use Rattle.params.specs.declared.Params.{Params}
 use Rattle.change.specs.Change.{ChangeOf, nodeChange, encryptionSchedule, ChangeStateOf, none, inProgress, complete}
@@ -93,7 +93,12 @@ refAckFound signer g w j (found q) =
     (candidateNow w g (insert byIndex (record { proposer = q .proposer; commit = q .commit; acks = insert (λ x. x) j (q .acks) }) (g .parts)))
 refAckFound signer g w j nothing = blamed signer (SyncKeyGenAck MissingPart) w
 
--- the signer's index in the candidate map; without one it is row 6, looked for before any step
+-- without key generation, `UnexpectedKeyGenPart` or `UnexpectedKeyGenAck` faults the signer
+abbrev pub unexpected : KeyGenMessageOf → FaultKind
+unexpected (part p) = UnexpectedKeyGenPart
+unexpected (ack a) = UnexpectedKeyGenAck
+
+-- the signer's index in the candidate map; 02, CR 2: without one the same fault, whatever else is wrong with the message
 abbrev pub refTracked : ℕ → CandidateRef → RefWork → KeyGenMessageOf → Found ℕ → RefWork
 refTracked signer g w (part p) (found i) =
     cond (eqb (length (p .rows)) (length (g .nodes)))
@@ -103,13 +108,8 @@ refTracked signer g w (ack a) (found j) =
     cond (eqb (length (a .values)) (length (g .nodes)))
     (refAckFound signer g w j (lookup byIndex (g .parts) (a .proposer)))
     (blamed signer (SyncKeyGenAck ValueCount) w)
-refTracked signer g w (part p) nothing = w
-refTracked signer g w (ack a) nothing = w
-
--- without key generation, `UnexpectedKeyGenPart` or `UnexpectedKeyGenAck` faults the signer
-abbrev pub unexpected : KeyGenMessageOf → FaultKind
-unexpected (part p) = UnexpectedKeyGenPart
-unexpected (ack a) = UnexpectedKeyGenAck
+refTracked signer g w (part p) nothing = blamed signer (unexpected (part p)) w
+refTracked signer g w (ack a) nothing = blamed signer (unexpected (ack a)) w
 
 abbrev pub refHandled : RefWork → SignedKeyGenMsgOf → Found CandidateRef → RefWork
 refHandled w m (found g) = refTracked (m .id) g w (m .message) (nodeIndex (g .nodes) (m .id))
@@ -197,23 +197,7 @@ refDecide era s = cond (refReady (s .candidate)) (refCompleted era s (s .candida
 abbrev pub refRow5 : ℕ → Bool
 refRow5 epoch = ltb 18446744073709551614 epoch
 
--- row 6: a key message of right era and signature, key generation running, signer not in the candidate map
-abbrev pub isOutsideRef : Found CandidateRef → ℕ → Bool
-isOutsideRef (found g) id = not (isMember (g .nodes) id)
-isOutsideRef nothing id = false
-
-unfoldable pub isStrayRef : RefState → SignedKeyGenMsgOf → Bool
-isStrayRef s m = eqb (m .era) (s .era) && (isSigned s m && isOutsideRef (s .candidate) (m .id))
-
-unfoldable pub anyStray : RefState → List SignedKeyGenMsgOf → Bool
-anyStray s [] = false
-anyStray s (m ∷ ms) = isStrayRef s m || anyStray s ms
-
-unfoldable pub refRow6 : RefState → List ContribOf → Bool
-refRow6 s [] = false
-refRow6 s (c ∷ cs) = anyStray s (c .messages) || refRow6 s cs
-
--- row 7: the winning map is empty
+-- row 6 has no condition (02, CR 2); row 7: the winning map is empty
 abbrev pub winsEmpty : Found ChangeOf → Bool
 winsEmpty (found (nodeChange [])) = true
 winsEmpty (found (nodeChange (n ∷ ns))) = false
@@ -250,9 +234,8 @@ refSteps z s epoch cs = reportedRef s epoch (refContribs z s cs .faults) (refDec
 unfoldable pub refBatch : Sizes → RefState → ℕ → List ContribOf → RefAnswer
 refBatch z s inner cs =
     cond (refRow5 (s .era + inner)) (deniedRef s 5)
-    (cond (refRow6 s cs) (deniedRef s 6)
     (cond (refRow7 z s cs) (deniedRef s 7)
-    (refSteps z s (s .era + inner) cs)))
+    (refSteps z s (s .era + inner) cs))
 
 abbrev pub refRead : Sizes → RefState → ℕ → Read (List ContribOf) → RefAnswer
 refRead z s inner (value cs c) = refBatch z s inner cs

@@ -33,8 +33,9 @@ pub record Unready (g : CandidateRef) : Type 0 where
   pub counted : Counted (Complete g) (g .parts) complete
   pub short : (complete ≤ maxFaulty (length (g .nodes))) ⊎ (3 * complete ≤ 2 * length (g .nodes))
 
--- row 6: a key message of right era and signature (current or candidate key), key generation running, signer not in the candidate map
-pub record Stray (s : RefState) (m : SignedKeyGenMsgOf) : Type 0 where
+-- a leaving station's key message (02, CR 2; the old row 6): of right era and signature (current or candidate key), key generation running, its signer not in the
+-- candidate map
+pub record Leaving (s : RefState) (m : SignedKeyGenMsgOf) : Type 0 where
   pub candidate : CandidateRef
   pub running : s .candidate ≡ found candidate
   pub right-era : m .era ≡ s .era

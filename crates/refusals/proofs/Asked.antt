@@ -1,4 +1,5 @@
--- The entries that hand back no state refuse exactly under their rows too: `join_plan`, `next_epoch`, the schedule call, and the companion of the look-up.
+-- The entries that hand back no state refuse exactly under their rows too: `join_plan`, reading and writing a plan, `next_epoch`, the schedule call, and the
+-- companion of the look-up.
 -- Assumes nothing.
 use Prim.Native.Nat.{ℕ, _+_, _^_, _<_, _≤_}
 use mathlib.Core.Path.{_≡_, refl, sym, ap, _∙_, subst}
@@ -9,7 +10,7 @@ use native.Mathlib.Omega.{arith}
 use lib.Dec.{eqb}
 use lib.ListN.{length, length-append}
 use Rattle.lists.specs.Lists.{Found, found, nothing}
-use Rattle.bincode.specs.Read.{Read, value, refuse}
+use Rattle.bincode.specs.Read.{Read, value, refuse, whole}
 use Rattle.bincode.specs.Outcome.{Outcome, done, refused}
 use Rattle.bincode.specs.Sizes.{Sizes}
 use Rattle.bincode.specs.Stands.{Bytes, concatMap}
@@ -17,7 +18,7 @@ use Rattle.bincode.specs.Numbers.{fixed}
 use Rattle.bincode.proofs.NumberLaws.{length-bytesOf}
 use Rattle.honey_badger.specs.declared.EncryptionSchedule.{EncryptionSchedule}
 use Rattle.honey_badger.specs.EncryptionSchedule.{row14, useOnEpoch}
-use Rattle.join_plan.specs.JoinPlan.{row1, planBytes, planSaid, planWritten}
+use Rattle.join_plan.specs.JoinPlan.{PlanOf, row1, readPlan, planBytes, planSaid, planWritten}
 use Rattle.batch.specs.Batch.{BatchOf, changed, noNext, planOfBatch, foundBytes, planLeft, planAnswered}
 use Rattle.internal_contrib.specs.InternalContrib.{ContribOf, userBytes, messagesBytes, votesBytes, contribBytes, batchBytes, readBatch}
 use Rattle.internal_contrib.specs.Places.{Place, at-place, no-place, placeFrom, userIn, userOf, startAt, startIn, hasId, contributed}
@@ -25,8 +26,8 @@ use Rattle.internal_contrib.proofs.ContribCodes.{batch-one-encoding}
 use Rattle.internal_contrib.proofs.BatchLaws.{place-clash, place-shows, place-none}
 use Rattle.dynamic_honey_badger.specs.Asked.{row5, nextEpoch}
 use Rattle.dynamic_honey_badger.specs.State.{StateOf, eraOf}
-use Rattle.refusals.specs.Table.{firstRow, refusalOf, planRows, nextRows, scheduleRows, lookupRows, SaysNo}
-use Rattle.refusals.proofs.Reading.{whole-batch}
+use Rattle.refusals.specs.Table.{firstRow, refusalOf, refusalOfRead, planRows, planReadRows, planWrittenRows, nextRows, scheduleRows, lookupRows, SaysNo}
+use Rattle.refusals.proofs.Reading.{whole-plan, whole-batch}
 use Rattle.refusals.proofs.FirstRow.{never}
 use Rattle.refusals.proofs.Rows.{by-row, no-row, by-read}
 
@@ -57,6 +58,16 @@ module _ (z : Sizes) (buffer : List ℕ) (b : BatchOf) (set : ℕ) where
       go false true true e = refl
       go false true false e = absurd (never (ap refusalOf e))
       go false false r5 e = refl
+
+-- a plan read from its bytes, and one written into a buffer
+module _ (z : Sizes) where
+  pub plan-read-rows : (bytes : List ℕ) → refusalOfRead (whole (readPlan fixed z bytes) bytes) ≡ firstRow (planReadRows z bytes)
+  unfolding planReadRows
+  plan-read-rows bytes = by-read refusalOfRead (λ x. []) (whole (readPlan fixed z bytes) bytes) (whole-plan bytes z) (λ n. refl) (λ p c u. no-row)
+
+  pub plan-written-rows : (buffer : List ℕ) (p : PlanOf) → refusalOf (planSaid z buffer p) ≡ firstRow (planWrittenRows z buffer)
+  unfolding planSaid planWrittenRows
+  plan-written-rows buffer p = by-row refusalOf 1 (row1 z buffer) _ _ _ refl no-row
 
 -- `next_epoch`
 pub next-rows : (s : StateOf) (inner : ℕ) → refusalOf (nextEpoch s inner) ≡ firstRow (nextRows s inner)

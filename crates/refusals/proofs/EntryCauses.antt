@@ -44,7 +44,7 @@ use Rattle.dynamic_honey_badger.specs.OwnVotes.{voteForBytes, voteToAdd}
 use Rattle.dynamic_honey_badger.specs.Received.{readDueItem, received, returned}
 use Rattle.process_output.specs.Refusals.{batchRow1}
 use Rattle.process_output.specs.Process.{BatchCall, ReportOf, processed}
-use Rattle.process_output.proofs.CallLaws.{Refusal, by-1, by-reading, by-4, by-15, by-5, by-6, by-7, number, batch-cases}
+use Rattle.process_output.proofs.CallLaws.{Refusal, by-1, by-reading, by-4, by-15, by-5, by-7, number, batch-cases}
 use Rattle.agreement.specs.Shared.{isOwnRefusal}
 use Rattle.agreement.specs.Hypotheses.{FullBatch}
 use Rattle.agreement.proofs.CountLaws.{reading-refuses}
@@ -175,8 +175,7 @@ module _ (z : Sizes) (nodes-fit : z .nodes < 256 ^ 8) (rows-fit : z .rows < 256 
       refusal (by-4 cs c r h) e = absurd (other-number 4 refl e)
       refusal (by-15 cs c r h o) e = ((λ d w. clash (readBatch z (b .bytes)) (r .bytes-read) (k .refuses d w)), o)
       refusal (by-5 cs c o h) e = absurd (other-number 5 refl e)
-      refusal (by-6 cs c o h5 h) e = absurd (other-number 6 refl e)
-      refusal (by-7 cs c o h5 h6 h) e = absurd (other-number 7 refl e)
+      refusal (by-7 cs c o h5 h) e = absurd (other-number 7 refl e)
 
   era-answer : Nothing-wrong → (b .era ≡ eraOf s → ⊥) → isOwnRefusal (processed z s b .answer) ≡ false → refusalOf (processed z s b .answer) ≡ found 15
   era-answer none other =
@@ -188,8 +187,7 @@ module _ (z : Sizes) (nodes-fit : z .nodes < 256 ^ 8) (rows-fit : z .rows < 256 
       refusal (by-4 cs c r e) h = absurd (false-true (sym h))
       refusal (by-15 cs c r e o) h = refl
       refusal (by-5 cs c o e) h = absurd (other (o .own-era))
-      refusal (by-6 cs c o h5 e) h = absurd (other (o .own-era))
-      refusal (by-7 cs c o h5 h6 e) h = absurd (other (o .own-era))
+      refusal (by-7 cs c o h5 e) h = absurd (other (o .own-era))
 
   pub era-caused : (refusalOf (processed z s b .answer) ≡ found 15) ↔ (FullBatch z b × ((c : Cause) → batchWrong z (b .bytes) c → ⊥) × (b .era ≡ eraOf s → ⊥))
   era-caused = (

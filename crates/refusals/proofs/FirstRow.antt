@@ -1,11 +1,15 @@
--- What `firstRow` says: a number is answered exactly if a row with that number holds and none before it does; nothing, exactly if none holds.
+-- What `firstRow` says: a number is answered exactly if a row with that number holds and none before it does; nothing, exactly if none holds. A number none of whose
+-- rows can hold is never answered.
 -- Assumes nothing.
 use Prim.Native.Nat.{ℕ}
-use mathlib.Core.Path.{_≡_, refl, sym, ap}
+use mathlib.Core.Path.{_≡_, refl, sym, ap, _∙_}
 use mathlib.Core.List.{List, [], _∷_, _++_}
-use mathlib.Core.Bool.{Bool, true, false, cond}
+use mathlib.Core.Bool.{Bool, true, false, not, cond, _&&_}
 use native.Mathlib.Omega.{arith}
+use lib.Dec.{eqb}
+use borrow.Author.Tests.{eq-eqb}
 use Rattle.lists.specs.Lists.{Found, found, nothing}
+use Rattle.lists.proofs.ListLaws.{false-true, and-both}
 use Rattle.bincode.specs.Stands.{All}
 use Rattle.refusals.specs.Table.{Row, row, firstRow}
 
@@ -45,6 +49,25 @@ splits-first n rs f = rw (f .splits) (go (f .before) (f .passed))
     go : (xs : List Row) → NoneHold xs → firstRow (xs ++ (row n true ∷ f .rest)) ≡ found n
     go [] h = refl
     go (x ∷ xs) h = rw (h .0) (go xs (h .1))
+
+-- no row with this number holds
+unfoldable pub unanswered : ℕ → List Row → Bool
+unanswered n [] = true
+unanswered n (r ∷ rs) = not (eqb (r .number) n && r .holds) && unanswered n rs
+
+-- and then the number is not answered, whatever the other rows are
+pub unanswered-never : (n : ℕ) (rs : List Row) → unanswered n rs ≡ true → firstRow rs ≡ found n → ⊥
+unfolding firstRow unanswered
+unanswered-never n [] h e = never e
+unanswered-never n (r ∷ rs) h e =
+    let both = and-both (not (eqb (r .number) n && r .holds)) (unanswered n rs) h in
+    go (r .holds) (both .0) (unanswered-never n rs (both .1)) e
+  where
+    go : (b : Bool) → not (eqb (r .number) n && b) ≡ true → (firstRow rs ≡ found n → ⊥) → cond b (found (r .number)) (firstRow rs) ≡ found n → ⊥
+    go true q rest p =
+        let k : r .number ≡ n = cc in
+        false-true (sym (ap (λ (t : Bool). not (t && true)) (eq-eqb (r .number) n k)) ∙ q)
+    go false q rest p = rest p
 
 -- nothing is answered where no row holds, and only there
 pub none-first : (rs : List Row) → NoneHold rs → firstRow rs ≡ nothing

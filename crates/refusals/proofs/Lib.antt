@@ -7,3 +7,4 @@ pub mod Asked
 pub mod DueItemCauses
 pub mod CauseRows
 pub mod EntryCauses
+pub mod NeverSix

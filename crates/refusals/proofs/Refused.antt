@@ -33,12 +33,12 @@ use Rattle.dynamic_honey_badger.specs.Asked.{row5}
 use Rattle.dynamic_honey_badger.specs.State.{StateOf, eraOf, nodesIn, isValidator, validSignature, startedFrom, started, joinedFrom, joined}
 use Rattle.dynamic_honey_badger.specs.OwnVotes.{VotedOf, votedAs, signedIn, voteFor, voteForRead, voteForBytes, voteToAdd, voteToRemove}
 use Rattle.dynamic_honey_badger.specs.Received.{quiet, fault, refusal, HandledOf, handledAs, votedIn, storedIn, keyGenIn, receivedKeyGen, signedBy, receivedContent, receivedRead, received, readDueItem, returnedKeyGen, returnedRead, returned}
-use Rattle.process_output.specs.Refusals.{batchRow1, batchRow4, batchRow15, batchRow6, batchRow7}
+use Rattle.process_output.specs.Refusals.{batchRow1, batchRow4, batchRow15, batchRow7}
 use Rattle.process_output.specs.Process.{BatchCall, ProcessedOf, processedContribs, processedRead, processed}
 use Rattle.refusals.specs.Table.{row, firstRow, refusalOf, refusalIn, readsTo, ofRead, startRows, joinRows, isLast, row11, voteRows, addRows, removeRows, comesToStore, messageRow12, messageRows, dueRow12, dueRows, batchRows}
 use Rattle.refusals.proofs.FirstRow.{never}
 use Rattle.refusals.proofs.Reading.{IsKeyGen, whole-params, whole-map, whole-plan, whole-change, whole-message, whole-due-item, whole-batch}
-use Rattle.refusals.proofs.Rows.{by-row, no-row, by-read}
+use Rattle.refusals.proofs.Rows.{by-row, unasked-row, no-row, by-read}
 
 -- starting: the checks, and `new` after them
 module _ (z : Sizes) (key : ℕ) (map params : List ℕ) where
@@ -242,10 +242,10 @@ module _ (z : Sizes) (s : StateOf) (b : BatchCall) where
       (by-read (λ x. reportedOf (processedRead z s b x))
       (λ x.
       row 4 (ofRead (λ (cs : List ContribOf). batchRow4 cs (b .verdicts)) x) ∷ row 15 (batchRow15 (eraOf s) (b .era)) ∷ row 5 (row5 (eraOf s + b .inner))
-      ∷ row 6 (ofRead (batchRow6 s) x) ∷ row 7 (ofRead (batchRow7 z s (b .verdicts)) x) ∷ [])
+      ∷ row 6 false ∷ row 7 (ofRead (batchRow7 z s (b .verdicts)) x) ∷ [])
       (readBatch z (b .bytes)) (whole-batch (b .bytes) z) (λ n. refl) λ cs c u.
       by-row reportedOf 4 (batchRow4 cs (b .verdicts)) _ _ _ refl
       (by-row reportedOf 15 (batchRow15 (eraOf s) (b .era)) _ _ _ refl
       (by-row reportedOf 5 (row5 (eraOf s + b .inner)) _ _ _ refl
-      (by-row reportedOf 6 (batchRow6 s cs) _ _ _ refl
+      (unasked-row 6 _
       (by-row reportedOf 7 (batchRow7 z s (b .verdicts) cs) _ _ _ refl no-row)))))

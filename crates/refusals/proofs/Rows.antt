@@ -20,6 +20,11 @@ module _ {R : Type 0} (f : R → Found ℕ) where
   by-row n true x y rs p q = p
   by-row n false x y rs p q = q
 
+-- a row without a condition refuses nothing
+pub unasked-row : {x : Found ℕ} (n : ℕ) (rs : List Row) → x ≡ firstRow rs → x ≡ firstRow (row n false ∷ rs)
+unfolding firstRow
+unasked-row n rs e = e
+
 -- no row is left
 pub no-row : nothing ≡ firstRow []
 unfolding firstRow

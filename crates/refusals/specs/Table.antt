@@ -27,7 +27,7 @@ use Rattle.key_gen.specs.KeyGen.{nodeCount}
 use Rattle.key_gen_state.specs.KeyGenState.{KeyGenStateOf, countMessages}
 use Rattle.dynamic_honey_badger.specs.State.{StateOf, eraOf, nodesIn, isValidator, validSignature}
 use Rattle.dynamic_honey_badger.specs.Received.{MessageEffect, quiet, fault, refusal, readDueItem}
-use Rattle.process_output.specs.Refusals.{batchRow1, batchRow4, batchRow15, batchRow6, batchRow7}
+use Rattle.process_output.specs.Refusals.{batchRow1, batchRow4, batchRow15, batchRow7}
 use Rattle.process_output.specs.Process.{BatchCall}
 
 pub record Row : Type 0 where
@@ -47,6 +47,10 @@ module _ {A : Type 0} where
   abbrev pub refusalOf : Outcome A → Found ℕ
   refusalOf (done a) = nothing
   refusalOf (refused n) = found n
+
+  abbrev pub refusalOfRead : Read A → Found ℕ
+  refusalOfRead (value a c) = nothing
+  refusalOfRead (refuse n) = found n
 
   -- reading ends with this number
   abbrev pub readsTo : ℕ → Read A → Bool
@@ -143,7 +147,7 @@ refusalIn quiet = nothing
 refusalIn (fault k) = nothing
 refusalIn (refusal n) = found n
 
--- a batch: 1; reading, 2 and 3; 4; 15 (02, CR 1); 5; 6; 7
+-- a batch: 1; reading, 2 and 3; 4; 15 (02, CR 1); 5; 6, which keeps its number and has no condition (02, CR 2); 7
 unfoldable pub batchRows : Sizes → StateOf → BatchCall → List Row
 batchRows z s b =
     row 1 (batchRow1 z (b .fault-places) (b .due-places))
@@ -152,13 +156,20 @@ batchRows z s b =
     ∷ row 4 (ofRead (λ (cs : List ContribOf). batchRow4 cs (b .verdicts)) (readBatch z (b .bytes)))
     ∷ row 15 (batchRow15 (eraOf s) (b .era))
     ∷ row 5 (row5 (eraOf s + b .inner))
-    ∷ row 6 (ofRead (batchRow6 s) (readBatch z (b .bytes)))
+    ∷ row 6 false
     ∷ row 7 (ofRead (batchRow7 z s (b .verdicts)) (readBatch z (b .bytes)))
     ∷ []
 
 -- `join_plan`: 1, also where nothing changed; then 5, where there is a plan and no epoch follows the report's
 unfoldable pub planRows : Sizes → List ℕ → BatchOf → List Row
 planRows z buffer b = row 1 (row1 z buffer) ∷ row 5 (changed (b .change) && noNext b) ∷ []
+
+-- reading a plan: 2 and 3 of its bytes; writing one: 1
+unfoldable pub planReadRows : Sizes → List ℕ → List Row
+planReadRows z bytes = row 2 (readsTo 2 (whole (readPlan fixed z bytes) bytes)) ∷ row 3 (readsTo 3 (whole (readPlan fixed z bytes) bytes)) ∷ []
+
+unfoldable pub planWrittenRows : Sizes → List ℕ → List Row
+planWrittenRows z buffer = row 1 (row1 z buffer) ∷ []
 
 -- `next_epoch`: 5
 unfoldable pub nextRows : StateOf → ℕ → List Row

@@ -258,24 +258,24 @@ fn join(f: Fleet) -> Fleet {
     admit(f, start_joining(report))
 }
 
-// Step 10: the second replica alone is given one more batch of era 7, which step 9 closed; its votes would win in era 8.
+// Step 10: the second replica alone is given one more batch of era 7, which step 9 closed; its votes would win in era 9.
 fn catch_up(f: Fleet) -> Fleet {
     let change = Change::schedule(EncryptionSchedule::Always);
-    f.take_alone(10, 1, 7, 1, batches::votes(8, 2, change))
+    f.take_alone(10, 1, 7, 2, batches::votes(9, 2, change))
 }
 
-// Steps 7 to 11: a replica joins, a part of the leaving node is refused, key generation completes, a replica gets a batch too late, and nothing is left to do.
+// Steps 7 to 11: a replica joins, a part of the leaving node is a fault of it, key generation completes, a replica gets a batch too late, and nothing is left to do.
 pub(crate) fn end(f: Fleet) -> Fleet {
     let a = join(f);
     let b = a.take(8, 7, 0, batches::one_part(7, remaining(), 3));
-    let c = b.take(9, 7, 0, batches::parts_and_acks(7, remaining()));
+    let c = b.take(9, 7, 1, batches::parts_and_acks(7, remaining()));
     let d = catch_up(c);
-    d.take(11, 8, 0, batches::nothing(8))
+    d.take(11, 9, 0, batches::nothing(8))
 }
 
 // Steps 12 and 13: the vote of node 1 alone stays committed, and that of node 3, which has left, is a fault; with the vote of node 2 the schedule wins.
 pub(crate) fn wait(f: Fleet) {
     let change = Change::schedule(EncryptionSchedule::EveryNthEpoch(2));
-    let a = f.take(12, 8, 1, batches::votes(8, 3, change));
-    a.take(13, 8, 2, batches::one_vote(8, 2, change));
+    let a = f.take(12, 9, 1, batches::votes(9, 3, change));
+    a.take(13, 9, 2, batches::one_vote(9, 2, change));
 }

@@ -1,4 +1,4 @@
--- Single sentences of the scope document, steps 2 to 5, said of one vote and one key message of a batch: whom a fault falls on, what is stored, what is due.
+-- Single sentences of documents 01 (steps 2 to 5) and 02, said of one vote and one key message of a batch: whom a fault falls on, what is stored, what is due.
 -- Assumes nothing.
 use Prim.Native.Nat.{ℕ, _<_}
 use mathlib.Core.Path.{_≡_}
@@ -12,12 +12,13 @@ use Rattle.bincode.specs.Sizes.{Sizes}
 use Rattle.fault_log.specs.declared.FaultKind.{FaultKind}
 use Rattle.fault_log.specs.declared.FaultKind.the-variants.{InvalidCommittedVote, InvalidKeyGenMessageSignature, InvalidKeyGenMessageEra, UnexpectedKeyGenPart, UnexpectedKeyGenAck}
 use Rattle.fault_log.specs.declared.Fault.{Fault}
-use Rattle.network_info.specs.NetworkInfo.{keyOf}
+use Rattle.network_info.specs.NetworkInfo.{nodeIndex, keyOf}
 use Rattle.due.specs.declared.DueKind.the-variants.{Ack}
 use Rattle.votes.specs.Votes.{SignedVoteOf}
 use Rattle.vote_counter.proofs.PageLaws.{AtOrBelow, Newer, committed-old, committed-era, committed-signature, committed-replaces}
 use Rattle.sync_key_gen.specs.SyncKeyGen.{PartOf, AckOf}
 use Rattle.key_gen.specs.KeyGen as key-gen
+use Rattle.key_gen.proofs.PageLaws.{part-leaving, ack-leaving}
 use Rattle.key_gen_state.specs.KeyGenState.{KeyGenStateOf}
 use Rattle.key_gen_message.specs.KeyGenMessage.{part, ack, SignedKeyGenMsgOf}
 use Rattle.message_store.specs.MessageStore.{without}
@@ -112,6 +113,24 @@ module _ (z : Sizes) (proposer : ℕ) (w : WorkOf) (m : SignedKeyGenMsgOf) (verd
       unfolding committedMessage messageDone
       ack-unexpected a e =
           rw (judged, eq-eqb _ _ now, signed-valid (w .state) (m .id) (m .sig) signed, none, e, more (z .faults) (w .faults) (faultOf (m .id) UnexpectedKeyGenAck) room)
+
+  -- 02, CR 2: "A station being removed can still sign with its current key": right era and signature, key generation running, no index of the signer in the candidate
+  -- map. "From now on it is a fault on that signer .. and processing continues": one fault, as far as the lent list reaches, whatever rows, values and verdict the message has
+  module _ (now : m .era ≡ w .state .counter .era) (signed : SignedBy (w .state) (m .id) (m .sig)) (g : KeyGenStateOf) (runs : w .state .key-gen ≡ found g)
+      (leaving : nodeIndex (g .key-gen .nodes) (m .id) ≡ nothing) where
+    -- key generation, due list and votes are as they were, the store is without equal messages, and the verdict is used up
+    abbrev goesOn : FaultKind → WorkOf
+    goesOn k = record { state = left (w .state .key-gen); faults = take (z .faults) (w .faults ++ (faultOf (m .id) k ∷ [])); due = w .due; verdicts = verdicts }
+
+    pub part-leaves : (p : PartOf) → m .message ≡ part p → committedMessage z proposer w m ≡ goesOn UnexpectedKeyGenPart
+    unfolding committedMessage messageDone
+    part-leaves p e =
+        rw (judged, eq-eqb _ _ now, signed-valid (w .state) (m .id) (m .sig) signed, runs, e, part-leaving (g .key-gen) (m .id) p leaving verdict)
+
+    pub ack-leaves : (a : AckOf) → m .message ≡ ack a → committedMessage z proposer w m ≡ goesOn UnexpectedKeyGenAck
+    unfolding committedMessage messageDone
+    ack-leaves a e =
+        rw (judged, eq-eqb _ _ now, signed-valid (w .state) (m .id) (m .sig) signed, runs, e, ack-leaving (g .key-gen) (m .id) a leaving verdict)
 
   -- with key generation: what a part or an ack does to it under its verdict (key_gen's own laws), the counts of senders as they were
   module _ (now : m .era ≡ w .state .counter .era) (signed : SignedBy (w .state) (m .id) (m .sig)) (g : KeyGenStateOf) (runs : w .state .key-gen ≡ found g) (next : key-gen.KeyGenOf) where

@@ -70,12 +70,11 @@ pub record MessageDoneOf : Type 0 where
 abbrev pub doneAs : Found KeyGenStateOf → Told → MessageDoneOf
 doneAs g t = record { key-gen = g; told = t }
 
--- step 5: key generation's word on a message; an ack is due for a newly recorded part with verdict 0. A refusal is row 6, looked for before any step.
+-- step 5: key generation's word on a message; an ack is due for a newly recorded part with verdict 0
 abbrev pub toldBy : key-gen.Effect → Told
 toldBy key-gen.quiet = quiet
 toldBy (key-gen.ack-due i) = owed i
 toldBy (key-gen.fault k) = blamed-signer k
-toldBy (key-gen.refused n) = quiet
 
 abbrev pub handledBy : key-gen.KeyGenOf → ℕ → KeyGenMessageOf → ℕ → key-gen.Handled
 handledBy g signer (part p) verdict = key-gen.handlePart g signer p verdict

@@ -28,8 +28,8 @@ returns c =
     let d = c .before .before .before .before .before .before .commit-batch in
     let known = c .before .before .before .before .before .before .before .before .before .before .before .before .before .before .before .before .shared-slice-known in
     let b = callOf (a .batch-era) (a .inner) (now (a .batch)) (now (a .verdicts)) (a .fault-places) (a .due-places) in (
-      worked-as b (a .era) (nodesOf (a .map)) (a .state) (o .result) (o .ensures) (λ i. known .given i .fits) (a .tally) (d .result) _ _ (d .ensures .0) (d .ensures .1),
-      opening-fits b (a .era) (nodesOf (a .map)) (a .state) (o .result) (o .ensures),
+      worked-as b (a .era) (o .result) (o .ensures) (nodesOf (a .map)) (a .state) (λ i. known .given i .fits) (a .tally) (d .result) _ _ (d .ensures .0) (d .ensures .1),
+      opening-fits b (a .era) (o .result) (o .ensures),
       d .ensures .2,
       d .ensures .3,
     )

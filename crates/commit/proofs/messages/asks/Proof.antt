@@ -27,31 +27,22 @@ returns-2 c =
     let u = c .asks-running .ensures in
     ((u .0 ∙ sym (rw (eq-eqb _ _ (c .before .before .before .before .if1 .left), sym (c .before .before .before .verify-under .ensures) ∙ c .before .before .if2 .taken, c .before .if3 .taken))), u .1, u .2)
 
-tells-requires-2 : tie.Need-tells-requires-2
-tells-requires-2 c κs = search needs
+unexpected-requires : tie.Need-unexpected-requires
+unexpected-requires c κs = search needs
 
 returns-3 : tie.Need-returns-3
 unfolding asked askedOf
 returns-3 c =
-    let u = told-ask (c .tells2 .result) _ (c .tells2 .ensures) in
-    ((u .0 ∙ sym (rw (eq-eqb _ _ (c .before .before .before .before .before .if1 .left), sym (c .before .before .before .before .verify-under .ensures) ∙ c .before .before .before .if2 .taken, c .before .before .if3 .left, c .before .if4 .taken))), u .1, u .2)
+    let u = c .unexpected .ensures in
+    ((u .0 ∙ sym (rw (eq-eqb _ _ (c .before .before .before .before .if1 .left), sym (c .before .before .before .verify-under .ensures) ∙ c .before .before .if2 .taken, c .before .if3 .left))), u .1, u .2)
 
-tells-requires-3 : tie.Need-tells-requires-3
-tells-requires-3 c κs = search needs
+tells-requires-2 : tie.Need-tells-requires-2
+tells-requires-2 c κs = search needs
 
 returns-4 : tie.Need-returns-4
-unfolding asked askedOf
-returns-4 c =
-    let u = told-ask (c .tells3 .result) _ (c .tells3 .ensures) in
-    ((u .0 ∙ sym (rw (eq-eqb _ _ (c .before .before .before .before .before .if1 .left), sym (c .before .before .before .before .verify-under .ensures) ∙ c .before .before .before .if2 .taken, c .before .before .if3 .left, c .before .if4 .left))), u .1, u .2)
-
-tells-requires-4 : tie.Need-tells-requires-4
-tells-requires-4 c κs = search needs
-
-returns-5 : tie.Need-returns-5
 unfolding asked
-returns-5 c =
-    let u = told-ask (c .tells4 .result) _ (c .tells4 .ensures) in
+returns-4 c =
+    let u = told-ask (c .tells2 .result) _ (c .tells2 .ensures) in
     ((u .0 ∙ sym (rw (eq-eqb _ _ (c .before .before .before .if1 .left), sym (c .before .before .verify-under .ensures) ∙ c .before .if2 .left))), u .1, u .2)
 
 pub asks-spec : {M : Type 1} → statement M
@@ -63,9 +54,7 @@ asks-spec =
     verify-under-requires
     asks-running-requires
     returns-2
-    tells-requires-2
+    unexpected-requires
     returns-3
-    tells-requires-3
-    returns-4
-    tells-requires-4
-    returns-5)
+    tells-requires-2
+    returns-4)

@@ -31,13 +31,13 @@ enum-known-j c = search needs
 enum-told : tie.Need-enum-told
 enum-told c = search needs
 
-tells-requires : tie.Need-tells-requires
-tells-requires c κs = search needs
+unexpected-requires : tie.Need-unexpected-requires
+unexpected-requires c κs = search needs
 
 returns : tie.Need-returns
 unfolding askedOf
 returns c =
-    let u = told-ask (c .tells .result) _ (c .tells .ensures) in
+    let u = c .unexpected .ensures in
     (u .0 ∙ sym (rw (sym (c .before .before .before .node-index .ensures) ∙ ap saidIndex (c .before .enum-told .given .1))), u .1, u .2)
 
 len-requires : tie.Need-len-requires
@@ -55,32 +55,23 @@ returns-3 c =
     let l = c .before .before .before .before .before .len .ensures in
     (rw (signer-at (c .before .before .before .before .before .before .before), eq-eqb _ _ (c .before .before .before .if1 .taken ∙ l .0), c .before .before .if2 .left, lt-ltb _ _ (c .if3 .taken)), c .if3 .taken, signer-within (c .before .before .before .before .before .before .before) _ (l .0) (l .1))
 
-tells-requires-2 : tie.Need-tells-requires-2
-tells-requires-2 c κs = search needs
+tells-requires : tie.Need-tells-requires
+tells-requires c κs = search needs
 
 returns-4 : tie.Need-returns-4
 unfolding askedOf
 returns-4 c =
-    let u = told-ask (c .tells2 .result) _ (c .tells2 .ensures) in
+    let u = told-ask (c .tells .result) _ (c .tells .ensures) in
     (u .0 ∙ sym (rw (signer-at (c .before .before .before .before .before .before .before .before), eq-eqb _ _ (c .before .before .before .before .if1 .taken ∙ c .before .before .before .before .before .before .len .ensures .0), c .before .before .before .if2 .left, le-ltb _ _ (c .before .if3 .left))), u .1, u .2)
 
-tells-requires-3 : tie.Need-tells-requires-3
-tells-requires-3 c κs = search needs
+blames-requires : tie.Need-blames-requires
+blames-requires c κs = search needs
 
 returns-5 : tie.Need-returns-5
 unfolding askedOf
 returns-5 c =
-    let u = told-ask (c .tells3 .result) _ (c .tells3 .ensures) in
-    (u .0 ∙ sym (rw (signer-at (c .before .before .before .before .before .before), ne-eqb _ _ (λ e. c .before .before .if1 .left (e ∙ sym (c .before .before .before .before .len .ensures .0))), c .before .if4 .taken)), u .1, u .2)
-
-tells-requires-4 : tie.Need-tells-requires-4
-tells-requires-4 c κs = search needs
-
-returns-6 : tie.Need-returns-6
-unfolding askedOf
-returns-6 c =
-    let u = told-ask (c .tells4 .result) _ (c .tells4 .ensures) in
-    (u .0 ∙ sym (rw (signer-at (c .before .before .before .before .before .before), ne-eqb _ _ (λ e. c .before .before .if1 .left (e ∙ sym (c .before .before .before .before .len .ensures .0))), c .before .if4 .left)), u .1, u .2)
+    let u = c .blames .ensures in
+    (u .0 ∙ sym (rw (signer-at (c .before .before .before .before .before), ne-eqb _ _ (λ e. c .before .if1 .left (e ∙ sym (c .before .before .before .len .ensures .0))))), u .1, u .2)
 
 pub asks-running-spec : {M : Type 1} → statement M
 asks-running-spec =
@@ -89,14 +80,12 @@ asks-running-spec =
     node-index-requires
     enum-known-j
     enum-told
-    tells-requires
+    unexpected-requires
     returns
     len-requires
     returns-2
     returns-3
-    tells-requires-2
+    tells-requires
     returns-4
-    tells-requires-3
-    returns-5
-    tells-requires-4
-    returns-6)
+    blames-requires
+    returns-5)

@@ -15,9 +15,6 @@ enum-known-outcome c = search needs
 enum-known-outcome-2 : tie.Need-enum-known-outcome-2
 enum-known-outcome-2 c = search needs
 
-enum-told-2 : tie.Need-enum-told-2
-enum-told-2 c = search needs
-
 returns : tie.Need-returns
 returns c = ap (λ (o : KeyOutcome). toldBy (saidOutcome o)) (sym (c .enum-told .given .1))
 
@@ -27,9 +24,6 @@ returns-2 c = ap (λ (o : KeyOutcome). toldBy (saidOutcome o)) (sym (c .before .
 returns-3 : tie.Need-returns-3
 returns-3 c = ap (λ (o : KeyOutcome). toldBy (saidOutcome o)) (sym (c .before .outcome2 .given .1))
 
-returns-4 : tie.Need-returns-4
-returns-4 c = ap (λ (o : KeyOutcome). toldBy (saidOutcome o)) (sym (c .enum-told2 .given .1))
-
 pub told-by-spec : {M : Type 1} → statement M
 told-by-spec =
     tie.close
@@ -37,8 +31,6 @@ told-by-spec =
     enum-told
     enum-known-outcome
     enum-known-outcome-2
-    enum-told-2
     returns
     returns-2
-    returns-3
-    returns-4)
+    returns-3)
