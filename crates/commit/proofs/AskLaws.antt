@@ -27,13 +27,14 @@ use Rattle.key_gen_state.specs.KeyGenState.{KeyGenStateOf}
 use Rattle.key_gen_message.specs.KeyGenMessage.{KeyGenMessageOf, part, ack, SignedKeyGenMsgOf}
 use Rattle.dynamic_honey_badger.specs.State.{validUnder}
 use Rattle.steps.specs.Steps.{Told, quiet, blamed-proposer, blamed-signer, MessageDoneOf, doneAs, handledBy, byKeyGen, messageDone, toldBy}
+use Rattle.key_gen_message.specs.declared.MessageHead.{MessageHead}
 use Rattle.key_gen_message.specs.Head.{headOf}
 use Rattle.commit.specs.declared.messages.MessageTold.{MessageTold}
 use Rattle.commit.specs.declared.messages.MessageTold.the-variants as told
 use Rattle.commit.specs.declared.messages.Ask.{Ask}
 use Rattle.commit.specs.declared.messages.What.{What}
 use Rattle.commit.specs.declared.messages.What.the-variants as what
-use Rattle.commit.specs.Asks.{keyGenIn, headWith, tells, for-part, for-ack, asked, askedOf, askedAt, StepOf, toldStep, asksDone, saidTold, saidAsk, Within, stepAs}
+use Rattle.commit.specs.Asks.{keyGenIn, headWith, tells, for-part, for-ack, asked, indexIn, unexpectedOf, askedOf, askedAt, StepOf, toldStep, asksDone, saidTold, saidAsk, Within, stepAs}
 
 -- where key generation runs
 abbrev pub doneFrom : KeyGenStateOf → StepOf → MessageDoneOf
@@ -90,6 +91,27 @@ module _ (s : KeyGenStateOf) (past : (i : ℕ) → base .nodes ≤ i → lookup 
       kinds : (x : KeyGenMessageOf) → messageDone era ns (found s) (withMessage m x) v ≡ doneFrom s (asksDone (s .key-gen) v (asked era ns (found (s .key-gen .nodes)) (headWith m x)))
       kinds (part p) = go (part p) (eqb (m .era) era) (validUnder ns (found (s .key-gen .nodes)) (m .id) (m .sig))
       kinds (ack a) = go (ack a) (eqb (m .era) era) (validUnder ns (found (s .key-gen .nodes)) (m .id) (m .sig))
+
+-- by the signer's index in the candidate map, where key generation runs
+module _ (running : Bool) (cs : List Node) (h : MessageHead) where
+  -- there is none
+  pub asked-none : indexIn (cond running (found cs) nothing) (h .id) ≡ nothing → askedOf (cond running (found cs) nothing) h ≡ unexpectedOf h
+  unfolding askedOf
+  asked-none e = go running e
+    where
+      go : (b : Bool) → indexIn (cond b (found cs) nothing) (h .id) ≡ nothing → askedOf (cond b (found cs) nothing) h ≡ unexpectedOf h
+      go true q = rw q
+      go false q = refl
+
+  -- there is one
+  pub asked-index : (j : ℕ) → indexIn (cond running (found cs) nothing) (h .id) ≡ found j
+      → (nodeIndex cs (h .id) ≡ found j) × (askedOf (cond running (found cs) nothing) h ≡ askedAt cs h (found j))
+  unfolding askedOf
+  asked-index j e = go running e
+    where
+      go : (b : Bool) → indexIn (cond b (found cs) nothing) (h .id) ≡ found j → (nodeIndex cs (h .id) ≡ found j) × (askedOf (cond b (found cs) nothing) h ≡ askedAt cs h (found j))
+      go true q = (q, rw q)
+      go false q = absurd (let y : _≡_ {A = ℕ} 0 1 = cc in let w : ⊥ = omega arith in w)
 
 -- where it does not
 by-none : (g : KeyGenOf) (m : SignedKeyGenMsgOf) (v era : ℕ) (ns : List Node) (x : KeyGenMessageOf) → messageDone era ns nothing (withMessage m x) v ≡ doneAs nothing (asksDone g v (asked era ns nothing (headWith m x)) .told)

@@ -7,7 +7,6 @@ use lib.ListN.{length, getD, set}
 use lib.Dec.{ltb, eqb}
 use Rattle.lists.specs.Lists.{Found, found, nothing, lookup}
 use Rattle.bincode.specs.Sizes.{base}
-use Rattle.fault_log.specs.declared.FaultKind.{FaultKind}
 use Rattle.fault_log.specs.declared.FaultKind.the-variants.{InvalidKeyGenMessageSignature, InvalidKeyGenMessageEra, UnexpectedKeyGenPart, UnexpectedKeyGenAck, SyncKeyGenPart, SyncKeyGenAck}
 use Rattle.fault_log.specs.declared.PartFault.the-variants.{RowCount}
 use Rattle.fault_log.specs.declared.AckFault.the-variants.{ValueCount, MissingPart}
@@ -42,13 +41,9 @@ pub data Asked : Type 0 where
   for-part : ℕ → ℕ → Asked
   for-ack : ℕ → ℕ → Asked
 
--- all is told: a fault of the signer, by the kind of its message
-abbrev pub signerBlamed : MessageHead → FaultKind → FaultKind → Asked
-signerBlamed h of-part of-ack = tells (blamed-signer (cond (h .part) of-part of-ack))
-
--- without key generation, and where the signer is not in the candidate map (02, CR 2)
+-- without key generation, and where the signer is not in the candidate map (02, CR 2), all is told: a fault of the signer
 abbrev pub unexpectedOf : MessageHead → Asked
-unexpectedOf h = signerBlamed h UnexpectedKeyGenPart UnexpectedKeyGenAck
+unexpectedOf h = cond (h .part) (tells (blamed-signer UnexpectedKeyGenPart)) (tells (blamed-signer UnexpectedKeyGenAck))
 
 -- a message of a node with an index: number of rows or values; no part stands past the places of a map.
 abbrev pub askedAt : List Node → MessageHead → Found ℕ → Asked
@@ -58,7 +53,13 @@ askedAt cs h (found j) =
     (cond (h .part) (for-part j (h .first))
     (cond (ltb (h .first) (base .nodes)) (for-ack (h .first) j)
     (tells (blamed-signer (SyncKeyGenAck MissingPart)))))
-    (signerBlamed h (SyncKeyGenPart RowCount) (SyncKeyGenAck ValueCount))
+    (cond (h .part) (tells (blamed-signer (SyncKeyGenPart RowCount)))
+    (tells (blamed-signer (SyncKeyGenAck ValueCount))))
+
+-- a node's index in the candidate map, where there is one
+abbrev pub indexIn : Found (List Node) → ℕ → Found ℕ
+indexIn (found cs) id = nodeIndex cs id
+indexIn nothing id = nothing
 
 unfoldable pub askedOf : Found (List Node) → MessageHead → Asked
 askedOf (found cs) h = askedAt cs h (nodeIndex cs (h .id))

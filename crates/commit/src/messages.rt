@@ -8,11 +8,12 @@ ghost use lib.ListN.{drop};
 ghost use Rattle.lists.specs.Lists.{found, nothing};
 ghost use Rattle.bincode.specs.Sizes.{base};
 ghost use Rattle.pub_key_map.specs.PubKeyMap.{nodesOf};
+ghost use Rattle.network_info.specs.NetworkInfo.{saidIndex};
 ghost use Rattle.key_gen.specs.KeyGen as gen;
 ghost use Rattle.key_gen.specs.declared.Proposal.{Proposal};
 ghost use Rattle.key_gen_state.specs.KeyGenState as running;
 ghost use Rattle.steps.specs.Steps.{toldBy, firstVerdict, otherVerdicts};
-ghost use Rattle.commit.specs.Asks.{asked, signerBlamed, unexpectedOf, askedOf, saidTold, saidAsk, Within, Stepping, partStep, ackStep, asksDone};
+ghost use Rattle.commit.specs.Asks.{asked, indexIn, askedOf, saidTold, saidAsk, Within, Stepping, partStep, ackStep, asksDone};
 ghost use Rattle.commit.specs.Handled.{DueBy, faultsTold, MessagesCommitted};
 ghost use Rattle.commit.specs.Faults.{FaultsBy};
 use crate::faults::put_fault;
@@ -132,33 +133,26 @@ fn tells(told: MessageTold) -> Ask
     }
 }
 
-// A fault of the signer, by the kind of its message.
-fn blames(h: MessageHead, of_part: FaultKind, of_ack: FaultKind) -> Ask
-    ensures { λ r. ⌜ (saidAsk (r .place) (r .what) ≡ signerBlamed h «of_part» «of_ack») × (r .place < base .nodes) × Within (r .what) ⌝ }
+// A node's index in the candidate map, where key generation runs.
+fn candidate_index(running: bool, candidate: PubKeyMap, id: u32) -> NodeIndex
+    ensures { λ r. ⌜ saidIndex r ≡ indexIn (cond running (found (nodesOf candidate)) nothing) id ⌝ }
 {
-    if h.part {
-        return tells(MessageTold::BlamedSigner(of_part));
+    if running {
+        return network_info::node_index(candidate, id);
     }
-    tells(MessageTold::BlamedSigner(of_ack))
+    NodeIndex::Nothing
 }
 
-// Nothing was expected of the signer.
-fn unexpected(h: MessageHead) -> Ask
-    ensures { λ r. ⌜ (saidAsk (r .place) (r .what) ≡ unexpectedOf h) × (r .place < base .nodes) × Within (r .what) ⌝ }
+// What a message asks whose era and signature are right. Without key generation, and of a node that leaves, nothing is expected: that is the signer's fault, before
+// anything else of the message is looked at.
+fn asks_signed(h: MessageHead, running: bool, candidate: PubKeyMap) -> Ask
+    ensures { λ r. ⌜ (saidAsk (r .place) (r .what) ≡ askedOf (cond running (found (nodesOf candidate)) nothing) h) × (r .place < base .nodes) × Within (r .what) ⌝ }
 {
-    blames(
-        h,
-        FaultKind::UnexpectedKeyGenPart,
-        FaultKind::UnexpectedKeyGenAck,
-    )
-}
-
-// What a message asks where key generation runs. One of a node that leaves is its fault before anything else of it is looked at.
-fn asks_running(h: MessageHead, candidate: PubKeyMap) -> Ask
-    ensures { λ r. ⌜ (saidAsk (r .place) (r .what) ≡ askedOf (found (nodesOf candidate)) h) × (r .place < base .nodes) × Within (r .what) ⌝ }
-{
-    let NodeIndex::At(j) = network_info::node_index(candidate, h.id) else {
-        return unexpected(h);
+    let NodeIndex::At(j) = candidate_index(running, candidate, h.id) else {
+        if h.part {
+            return tells(MessageTold::BlamedSigner(FaultKind::UnexpectedKeyGenPart));
+        }
+        return tells(MessageTold::BlamedSigner(FaultKind::UnexpectedKeyGenAck));
     };
     if h.count == candidate.len() as u64 {
         if h.part {
@@ -175,11 +169,10 @@ fn asks_running(h: MessageHead, candidate: PubKeyMap) -> Ask
         }
         return tells(MessageTold::BlamedSigner(FaultKind::SyncKeyGenAck(AckFault::MissingPart)));
     }
-    blames(
-        h,
-        FaultKind::SyncKeyGenPart(PartFault::RowCount),
-        FaultKind::SyncKeyGenAck(AckFault::ValueCount),
-    )
+    if h.part {
+        return tells(MessageTold::BlamedSigner(FaultKind::SyncKeyGenPart(PartFault::RowCount)));
+    }
+    tells(MessageTold::BlamedSigner(FaultKind::SyncKeyGenAck(AckFault::ValueCount)))
 }
 
 // What a message asks: era, then signature, then key generation.
@@ -190,10 +183,7 @@ fn asks(h: MessageHead, era: u64, map: PubKeyMap, running: bool, candidate: PubK
         return tells(MessageTold::BlamedProposer(FaultKind::InvalidKeyGenMessageEra));
     }
     if dynamic_honey_badger::verify_under(map, running, candidate, h.id, h.sig) {
-        if running {
-            return asks_running(h, candidate);
-        }
-        return unexpected(h);
+        return asks_signed(h, running, candidate);
     }
     tells(MessageTold::BlamedProposer(FaultKind::InvalidKeyGenMessageSignature))
 }
