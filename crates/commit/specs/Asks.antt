@@ -45,7 +45,7 @@ pub data Asked : Type 0 where
 abbrev pub unexpectedOf : MessageHead → Asked
 unexpectedOf h = cond (h .part) (tells (blamed-signer UnexpectedKeyGenPart)) (tells (blamed-signer UnexpectedKeyGenAck))
 
--- a message of a node with an index: number of rows or values; no part stands past the places of a map.
+-- a message of a node with an index: number of rows or values; no part stands past the places of a map
 abbrev pub askedAt : List Node → MessageHead → Found ℕ → Asked
 askedAt cs h nothing = unexpectedOf h
 askedAt cs h (found j) =

@@ -2,7 +2,7 @@
 -- Assumes nothing.
 use Prim.Native.Nat.{ℕ}
 use mathlib.Core.Path.{_≡_, refl, sym, ap, _∙_}
-use mathlib.Core.List.{List, [], _∷_, _++_}
+use mathlib.Core.List.{List, [], _∷_}
 use mathlib.Core.Bool.{Bool, true, false, cond, _&&_}
 use Rattle.lists.specs.Lists.{Found, filter}
 use Rattle.bincode.specs.Sizes.{Sizes}
@@ -10,14 +10,13 @@ use Rattle.bincode.specs.Items.{foldl}
 use Rattle.bincode.proofs.ItemLaws.{foldl-append}
 use Rattle.votes.specs.Votes.{SignedVoteOf}
 use Rattle.vote_counter.specs.VoteCounter.{CounterOf, VoteEffect, stored, nothing-new, fault, withCommitted, committedEffect, afterCommitted, addCommitted}
-use Rattle.params.specs.declared.Params.{Params}
 use Rattle.key_gen_state.specs.KeyGenState.{KeyGenStateOf}
 use Rattle.key_gen_message.specs.KeyGenMessage.{SignedKeyGenMsgOf}
 use Rattle.message_store.specs.MessageStore.{without, isOther}
 use Rattle.internal_contrib.specs.InternalContrib.{ContribOf}
 use Rattle.dynamic_honey_badger.specs.State.{StateOf, eraOf, nodesIn, withCounter, withKeyGen, withStore}
 use Rattle.steps.specs.Kept.{less, isNone, messagesIn}
-use Rattle.steps.specs.Steps.{WorkOf, Told, quiet, owed, blamed-proposer, blamed-signer, MessageDoneOf, withState, judged, votedAs, committedVote, messageDone, applied, committedMessage, firstVerdict, committedContrib}
+use Rattle.steps.specs.Steps.{WorkOf, Told, quiet, owed, blamed-proposer, blamed-signer, withState, judged, votedAs, committedVote, messageDone, applied, committedMessage, firstVerdict, committedContrib}
 
 filter-both : {A : Type 0} (p q : A → Bool) (xs : List A) → filter q (filter p xs) ≡ filter (λ x. p x && q x) xs
 unfolding filter

@@ -10,7 +10,7 @@ use Rattle.bincode.specs.Sizes.{base}
 use Rattle.pub_key_map.specs.PubKeyMap.{nodesOf}
 use Rattle.network_info.specs.NetworkInfo.{nodeIndex, saidIndex}
 use Rattle.network_info.proofs.IndexLaws.{index-found}
-use Rattle.commit.specs.Asks.{askedOf, askedAt, indexIn}
+use Rattle.commit.specs.Asks.{askedOf, askedAt}
 use Rattle.commit.proofs.AskLaws.{asked-none, asked-index, told-ask}
 use Rattle.commit.proofs.messages.asks_signed.Statement.{statement}
 use Rattle.commit.proofs.messages.asks_signed.Tie as tie

@@ -1,5 +1,4 @@
 use borrow.Author.Needs.{needs}
-use mathlib.Core.Path.{sym, _∙_}
 use Rattle.commit.proofs.messages.candidate_index.Statement.{statement}
 use Rattle.commit.proofs.messages.candidate_index.Tie as tie
 
