@@ -159,3 +159,7 @@ def bad_lines(s, r):
             # a batch without its era, with an era that is none, and with a field too many
             "batch %d 0000000000000000 - 1024 1025" % s.inner, "batch 18446744073709551616 0 0000000000000000 - 1024 1025",
             "batch - 0 0000000000000000 - 1024 1025", "batch %d 0 0000000000000000 - 1024 1025 0" % s.era, "last 1", "last ", "lasts"]
+
+
+# Lines that are no call `board`.
+BAD_BOARDS = ["board 1", "board -", "board ", "boards", " board", "board board"]

@@ -1,9 +1,11 @@
 """Seasons: a log of calls that one replica gets, built step by step against the oracle, whose answers tell what the group's state is.
 
 Each line of a log comes with what must be answered (requests.py): the oracle's own words, or, for a call that was built to be refused, `refused N`
-with the number of the row that it was built for, or `refused *` for bytes that were damaged at random (some refusal, no number stated)."""
+with the number of the row that it was built for, or `refused *` for bytes that were damaged at random (some refusal, no number stated). The Rust has no tally
+board: what must be answered to `board` is worked out from the votes that it tells (board.py)."""
 import random
 import subprocess
+import board
 import requests
 import wire
 
@@ -34,16 +36,19 @@ class Oracle:
 class Season:
     def __init__(self, oracle, seed, small=False, deep=False, rust=False):
         """A small season has few nodes, fewer calls, and shows the state now and then only: the sample is made of such.
-        A deep one shows after each accepted call everything that a log can show: the state, each pending vote, each stored message.
-        A season for the Rust has no batch at which the Rust errs: leaving nodes send nothing."""
+        A deep one shows after each accepted call everything that a log can show: the board, the state, each pending vote, each stored message.
+        A season for the Rust has no batch at which the Rust errs, so leaving nodes send nothing, and no board."""
         self.o, self.r, self.small, self.deep, self.rust = oracle, random.Random(seed), small, deep, rust
         # apart, so that a season keeps its other calls where these are added or left out
         self.lengths = random.Random("lengths %d" % seed)
         self.late = random.Random("late %d" % seed)
         self.away = random.Random("leaving %d" % seed)
+        self.tally = random.Random("board %d" % seed)
+        self.every_board = deep  # whether a board is asked behind each call that may change a state
+        self.boards = []  # for each board that was asked: the call before it and its answer, the states told before that call and now
         self.heard = []  # key messages that were received or handed back, some of which are stored
         self.lines, self.answers = [], []
-        self.shown = set()  # the places of answers that a deep season adds
+        self.shown = set()  # the places of boards, and of answers that a deep season adds
         self.last_era = None  # the era in which the own pending vote has the last number
 
     def calls(self):
@@ -51,7 +56,7 @@ class Season:
         return 22 if self.small else 60
 
     def said(self):
-        """How many lines it has so far, without those that a deep season adds."""
+        """How many lines it has so far, without boards and those that a deep season adds."""
         return len(self.lines) - len(self.shown)
 
     def told(self, k):
@@ -61,12 +66,28 @@ class Season:
     # -- lines ---------------------------------------------------------------------------------------------------------------
     def say(self, line, number=None, maybe=False):
         """A call; with a number it was built for that row of the table, with `maybe` the Rust may take it all the same."""
+        assert line != "board", "the Rust has none: ask_board"
+        changing = line.split(" ")[0] in CHANGING
+        before = self.o.ask("state") if changing else None
         a = requests.asked(line, self.o.ask, number, maybe)
         self.lines.append(line)
         self.answers.append(a)
-        if self.deep and line.split(" ")[0] in CHANGING and (a == "refused 15" or not a.startswith(("refused", "no engine"))):
+        if changing and self.board_wanted(line):
+            self.ask_board(line, a, before)
+        if self.deep and changing and (a == "refused 15" or not a.startswith(("refused", "no engine"))):
             self.show_all()
         return a
+
+    def board_wanted(self, line):
+        """Behind every batch, and now and then behind another call that may change a state; in a small season less often."""
+        share = (0.12 if self.small else 1) if line.startswith("batch ") else (0.03 if self.small else 0.15)
+        return (self.tally.random() < share or self.every_board) and not self.rust
+
+    def ask_board(self, call="", told="", before=None):
+        """Asks for the tally board, behind a call with its answer where one is given. What must be answered is worked out from the votes that the Rust's own state tells."""
+        now = self.o.ask("state")
+        self.add("board", board.answer(now))
+        self.boards.append((call, told, before or now, now))
 
     def built(self, number, line):
         """A call as refusals.py builds it: for a row, or without a number a batch that is reported."""
@@ -82,11 +103,14 @@ class Season:
                 k += 1
 
     def show(self, line):
-        a = self.o.ask(line)
+        return self.add(line, self.o.ask(line))
+
+    def add(self, line, answer):
+        """A line that does not count as one of the season."""
         self.shown.add(len(self.answers))
         self.lines.append(line)
-        self.answers.append(a)
-        return a
+        self.answers.append(answer)
+        return answer
 
     def damaged(self, line):
         """Bytes damaged at random: where the oracle reads them all the same, its answer counts."""
@@ -105,6 +129,7 @@ class Season:
         self.era = self.group.era
         self.map = wire.read_map(bytes.fromhex(a[2]))
         self.votes = {} if a[5] == "-" else {int(v.split(":")[0]): int(v.split(":")[1]) for v in a[5].split(",")}
+        self.voted = {voter: wire.read_change(bytes.fromhex(change)) for voter, change in board.votes_told(" ".join(a)).items()}
         self.candidate = None if a[7] == "-" else wire.read_map(bytes.fromhex(a[7]))
         self.parts = {} if a[9] == "-" else {int(q.split(":")[0]): q.split(":") for q in a[9].split(",")}
 
@@ -275,6 +300,24 @@ class Season:
         if self.empty_wins(c, vs):
             return
         self.batch(self.leaving_messages(0.3), vs)
+
+    def scattered(self):
+        """Votes of some voters for a few changes, some of which have votes already: rows, ties, voters that go over. Mostly so that none wins; the empty map never does."""
+        r, ids = self.tally, [i for i, _ in self.map]
+        few = list(self.voted.values())
+        few = r.sample(few, min(len(few), r.randrange(4))) + [self.scattered_change() for _ in range(r.choice([1, 2, 3, len(ids)]))]
+        most, voted, votes = (len(ids) - 1) // 3 if r.random() < 0.8 else len(ids), dict(self.voted), []
+        for i in r.sample(ids, r.randrange(1, len(ids) + 1)):
+            c = r.choice(few)
+            if list(voted.values()).count(c) < ((len(ids) - 1) // 3 if c == ("map", []) else most):
+                voted[i] = c
+                votes.append(self.a_vote(c, i))
+        self.batch([], votes)
+
+    def scattered_change(self):
+        """A change that the group could vote for, or one of the schedules that are equal in effect, or the empty map, or that which there is or will be."""
+        r = self.tally
+        return self.change_wanted() if r.random() < 0.6 else r.choice([("schedule", r.choice([(0,), (2, 1), (3, 1, 0)])), ("map", []), ("map", self.map), ("map", self.candidate or self.map)])
 
     def empty_wins(self, c, vs):
         return any(v[0] == ("map", []) for v in vs)

@@ -117,6 +117,13 @@ class Reader:
         return (self.u32(), self.bytes(self.u64()), self.many(self.signed), self.many(self.vote))
 
 
+def read_change(b):
+    """The change that these bytes are."""
+    c = Reader(b).change()
+    assert change(c) == b, b.hex()
+    return c
+
+
 def read_batch(b):
     """The contributions of a batch that is well formed."""
     r = Reader(b)

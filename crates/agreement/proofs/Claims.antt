@@ -19,8 +19,9 @@ use Rattle.reference.specs.Reference.{RefState}
 use Rattle.reference.specs.Step.{refRun, refAnswers, refTaken}
 use Rattle.reference.proofs.PassedLaws.{taken-taken}
 use Rattle.agreement.specs.Shared.{refOf}
-use Rattle.agreement.specs.Calls.{Call, batch-call, run, sharedBatches, answers, givenBatches, reports, lastStamp, Start, new-start, join-start, startState}
-use Rattle.agreement.specs.Claim.{refStart, FollowsFrom, FollowsStart, Agree, SameOutcome, UpToEra}
+use Rattle.agreement.specs.Calls.{Call, batch-call, run, sharedBatches, answers, givenBatches, reports, lastStamp, Start, new-start, join-start, startState, joinedState}
+use Rattle.agreement.specs.Claim.{refStart, FollowsFrom, FollowsStart, Agree, SameOutcome, UpToEra, OneBoard}
+use Rattle.vote_counter.specs.Calls.{InStep}
 use Rattle.agreement.specs.Hypotheses.{Full, beganEra, leftOlder, OfBytes, StartBytes}
 use Rattle.agreement.specs.Formed.{Formed, CallFits, StartFits}
 use Rattle.agreement.proofs.Follow as follow
@@ -28,6 +29,7 @@ use Rattle.agreement.proofs.Agree as agreeing
 use Rattle.agreement.proofs.Agree.{start-opens, opened-stands, base-fits}
 use Rattle.agreement.proofs.PassedCalls as passed
 use Rattle.agreement.proofs.LastReports as last
+use Rattle.agreement.proofs.BoardLaws as boards
 use Rattle.agreement.proofs.FullLaws as full
 use Rattle.agreement.proofs.FullLaws.{same-taken-given}
 use Rattle.agreement.proofs.Joiner as joiner
@@ -136,6 +138,15 @@ module _ (start : Start) (start-bytes : StartBytes start) (a : StateOf) (starts 
         let r₁ = refRun base r₀ (sharedBatches base a (before ++ (batch-call b ∷ []))) in
         joiner-agrees r₀ opens f g (ap (refTaken base r₁) q ∙ taken-taken base r₁ (givenBatches ds))
 
+    -- 02, CR 3: wherever they agree they have one board
+    pub joiner-one-board : Agree base (processed base (run base a before) b .state) cs (j .state) ds
+        → OneBoard (run base (processed base (run base a before) b .state) cs) (run base (j .state) ds)
+    joiner-one-board agree =
+        let giver = boards.batch-boarded base (run base a before) b (boards.run-boarded base before a (boards.start-boarded base start a starts)) in
+        let joiner-start = boards.start-boarded base (join-start places id key (take n (planLeft base l (r .batch) set))) (j .state) (ap joinedState joins) in
+        let after = processed base (run base a before) b .state in
+        boards.one-board (run base after cs) (run base (j .state) ds) (boards.run-boarded base cs after giver) (boards.run-boarded base ds (j .state) joiner-start) (agree .0)
+
 -- from whatever state on, a replica follows the reference state that its shared part is
 pub replica-follows : (cs : List Call) (s : StateOf) → FollowsFrom base (refOf s) s cs
 replica-follows = follow.follows base base-fits
@@ -168,6 +179,18 @@ other-era-left-out = passed.left-out base
 -- 02, CR 1: from every accepted start on, what is told is era and epoch of the last report that the batch calls returned, none if there is none
 pub last-report-told : (start : Start) (s : StateOf) → startState base start ≡ done s → (cs : List Call) → lastReport (run base s cs) ≡ lastStamp (reports base s cs)
 last-report-told = last.last-reported base
+
+-- 02, CR 3: from every accepted start on, after every list of calls, the board is the one worked out from all committed votes, its counts add up to their number, and
+-- its rows are handed out by place
+pub board-in-step : (start : Start) (s : StateOf) → startState base start ≡ done s → (cs : List Call) → InStep (run base s cs .counter)
+board-in-step = boards.start-in-step base
+
+-- so two replicas that started by an accepted start each, and agree, have one board
+pub agreeing-one-board : (start start′ : Start) (s t : StateOf) → startState base start ≡ done s → startState base start′ ≡ done t → (cs ds : List Call) → Agree base s cs t ds
+    → OneBoard (run base s cs) (run base t ds)
+agreeing-one-board start start′ s t starts starts′ cs ds agree =
+    boards.one-board (run base s cs) (run base t ds) (boards.run-boarded base cs s (boards.start-boarded base start s starts))
+    (boards.run-boarded base ds t (boards.start-boarded base start′ t starts′)) (agree .0)
 
 -- every state that is reached from an accepted start is well formed
 pub reached-states-formed : (start : Start) → StartFits start → (s : StateOf) → startState base start ≡ done s → (cs : List Call) → All CallFits cs → Formed base (run base s cs)

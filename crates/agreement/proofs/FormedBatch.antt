@@ -8,7 +8,8 @@ use native.Mathlib.Omega.{arith}
 use lib.Dec.{eqb}
 use lib.ListN.{length}
 use borrow.Author.Tests.{ltb-false}
-use Rattle.lists.specs.Lists.{Found, found, nothing}
+use Rattle.lists.specs.Lists.{Found, found, nothing, takesPlace}
+use Rattle.lists.proofs.SortedLaws.{within-left}
 use Rattle.lists.proofs.ListLaws.{false-true}
 use Rattle.bincode.specs.Sizes.{Sizes}
 use Rattle.bincode.specs.Items.{foldl}
@@ -24,7 +25,9 @@ use Rattle.change.specs.Change.{ChangeOf, nodeChange, encryptionSchedule, inPro
 use Rattle.votes.specs.Votes.{SignedVoteOf, SignedVoteOk}
 use Rattle.winner.specs.Winner.{winner}
 use Rattle.vote_counter.specs.VoteCounter as counter
-use Rattle.vote_counter.specs.VoteCounter.{obsolete, isKey, validVote, committedEffect, afterCommitted, addCommitted, computeWinner}
+use Rattle.signed_votes.specs.SignedVotes.{voterOf}
+use Rattle.vote_counter.proofs.BoardKept.{board-kept}
+use Rattle.vote_counter.specs.VoteCounter.{obsolete, isKey, validVote, voteEffect, afterCommitted, addCommitted, computeWinner}
 use Rattle.key_gen_state.specs.KeyGenState.{KeyGenStateOf, readyState}
 use Rattle.key_gen_message.specs.KeyGenMessage.{SignedKeyGenMsgOf, SignedOk}
 use Rattle.message_store.specs.MessageStore.{isOther, without}
@@ -60,7 +63,7 @@ module _ (z : Sizes) (era : ℕ) where
 
   -- a committed vote
   vote-works : (p : ℕ) (w : WorkOf) (v : SignedVoteOf) → SignedVoteOk z v → Working w → Working (committedVote z p w v)
-  unfolding committedVote addCommitted committedEffect validVote
+  unfolding committedVote addCommitted voteEffect validVote
   vote-works p w v o f =
       go (obsolete (w .state .counter .committed) v) (eqb (v .vote .era) (eraOf (w .state))) (isKey (v .sig) (keyOf (nodesIn (w .state)) (v .voter))) refl
     where
@@ -69,8 +72,10 @@ module _ (z : Sizes) (era : ℕ) where
           (countedAs z p w (afterCommitted z (w .state .counter) v (cond a counter.nothing-new (cond b (cond c counter.stored (counter.fault InvalidCommittedVote)) (counter.fault InvalidCommittedVote)))))
       go true b c e = f
       go false true true e = (
-        with-committed z (w .state) (f .0) _
-            (vote-more z (nodesIn (w .state)) v (w .state .counter .committed) (signer-member (nodesIn (w .state)) (v .voter) (v .sig) e) o (f .0 .committed-formed)),
+        with-committed z (w .state) (f .0) _ _
+            (vote-more z (nodesIn (w .state)) v (w .state .counter .committed) (signer-member (nodesIn (w .state)) (v .voter) (v .sig) e) o (f .0 .committed-formed))
+            (board-kept (takesPlace voterOf (z .nodes) (v .voter) (w .state .counter .committed)) (w .state .counter .committed) _ (w .state .counter .board)
+            (within-left voterOf (z .nodes) v (w .state .counter .committed)) (f .0 .board-worked)),
         f .1,
       )
       go false true false e = f

@@ -16,6 +16,9 @@ use Rattle.params.specs.Params.{ParamsOk}
 use Rattle.votes.specs.Votes.{SignedVoteOf}
 use Rattle.vote_counter.specs.VoteCounter as counter
 use Rattle.vote_counter.specs.VoteCounter.{withPending, withCommitted}
+use Rattle.vote_counter.proofs.BoardKept.{worked-none}
+use Rattle.board.specs.declared.BoardRow.{BoardRow}
+use Rattle.board.specs.Board.{workedOut}
 use Rattle.key_gen_state.specs.KeyGenState.{KeyGenStateOf}
 use Rattle.key_gen_message.specs.KeyGenMessage.{SignedKeyGenMsgOf, SignedOk}
 use Rattle.message_store.specs.MessageStore.{isRecent, fromEra}
@@ -37,6 +40,7 @@ module _ (z : Sizes) (s : StateOf) (f : Formed z s) where
         params-ok = f .params-ok;
         pending-formed = v;
         committed-formed = f .committed-formed;
+        board-worked = f .board-worked;
         key-gen-formed = f .key-gen-formed;
         store-era = f .store-era;
         store-ok = f .store-ok;
@@ -44,8 +48,8 @@ module _ (z : Sizes) (s : StateOf) (f : Formed z s) where
         last-fits = f .last-fits;
       }
 
-  pub with-committed : (vs : List SignedVoteOf) → VotesFormed z (nodesIn s) vs → Formed z (withCounter s (withCommitted (s .counter) vs))
-  with-committed vs v =
+  pub with-committed : (vs : List SignedVoteOf) (rs : List BoardRow) → VotesFormed z (nodesIn s) vs → rs ≡ workedOut vs → Formed z (withCounter s (withCommitted (s .counter) vs rs))
+  with-committed vs rs v b =
       record {
         our-id-fits = f .our-id-fits;
         our-key-fits = f .our-key-fits;
@@ -54,6 +58,7 @@ module _ (z : Sizes) (s : StateOf) (f : Formed z s) where
         params-ok = f .params-ok;
         pending-formed = f .pending-formed;
         committed-formed = v;
+        board-worked = b;
         key-gen-formed = f .key-gen-formed;
         store-era = f .store-era;
         store-ok = f .store-ok;
@@ -71,6 +76,7 @@ module _ (z : Sizes) (s : StateOf) (f : Formed z s) where
         params-ok = f .params-ok;
         pending-formed = f .pending-formed;
         committed-formed = f .committed-formed;
+        board-worked = f .board-worked;
         key-gen-formed = k;
         store-era = f .store-era;
         store-ok = f .store-ok;
@@ -88,6 +94,7 @@ module _ (z : Sizes) (s : StateOf) (f : Formed z s) where
         params-ok = o;
         pending-formed = f .pending-formed;
         committed-formed = f .committed-formed;
+        board-worked = f .board-worked;
         key-gen-formed = f .key-gen-formed;
         store-era = f .store-era;
         store-ok = f .store-ok;
@@ -105,6 +112,7 @@ module _ (z : Sizes) (s : StateOf) (f : Formed z s) where
         params-ok = f .params-ok;
         pending-formed = f .pending-formed;
         committed-formed = f .committed-formed;
+        board-worked = f .board-worked;
         key-gen-formed = f .key-gen-formed;
         store-era = a;
         store-ok = o;
@@ -123,6 +131,7 @@ module _ (z : Sizes) (s : StateOf) (f : Formed z s) where
         params-ok = f .params-ok;
         pending-formed = f .pending-formed;
         committed-formed = f .committed-formed;
+        board-worked = f .board-worked;
         key-gen-formed = f .key-gen-formed;
         store-era = f .store-era;
         store-ok = f .store-ok;
@@ -150,6 +159,7 @@ module _ (z : Sizes) (s : StateOf) (f : Formed z s) where
         params-ok = f .params-ok;
         pending-formed = no-votes z ns;
         committed-formed = no-votes z ns;
+        board-worked = sym worked-none;
         key-gen-formed = f .key-gen-formed;
         store-era = subst (All (λ (x : SignedKeyGenMsgOf). x .era ≡ era)) (sym e) tt;
         store-ok = subst (All (SignedOk z)) (sym e) tt;

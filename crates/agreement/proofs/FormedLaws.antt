@@ -1,7 +1,7 @@
 -- An accepted start is formed, and every call leaves a formed state formed: so every state that is reached is formed.
 -- Assumes nothing.
 use Prim.Native.Nat.{ℕ, _^_, _<_}
-use mathlib.Core.Path.{_≡_, refl, subst}
+use mathlib.Core.Path.{_≡_, refl, sym, subst}
 use mathlib.Core.List.{List, [], _∷_, map}
 use mathlib.Core.Bool.{Bool, true, false, cond}
 use native.Mathlib.Omega.{arith}
@@ -27,6 +27,7 @@ use Rattle.join_plan.proofs.PlanCodes.{plan-one-encoding}
 use Rattle.joining.specs.Starting.{reading, isEmpty, keyRow2, emptyProgress, joinRow8, joinChecked, startMap, startChecked}
 use Rattle.dynamic_honey_badger.specs.State.{StateOf, freshKeyGen, keyGenFor, opened, startedFrom, started, joinedBy, joinedWith, joinedFrom, joined}
 use Rattle.steps.specs.Steps as steps
+use Rattle.vote_counter.proofs.BoardKept.{worked-none}
 use Rattle.agreement.specs.Calls.{Call, batch-call, vote-call, add-call, remove-call, message-call, due-call, after, run, Start, new-start, join-start, joinedState, startState}
 use Rattle.agreement.specs.Formed.{MapFormed, Formed, CallFits, StartFits}
 use Rattle.agreement.proofs.Agree.{done-refused, accepted-plan}
@@ -63,6 +64,7 @@ opened-formed z id key era ns p i k e m o =
       params-ok = o;
       pending-formed = no-votes z ns;
       committed-formed = no-votes z ns;
+      board-worked = sym worked-none;
       key-gen-formed = tt;
       store-era = tt;
       store-ok = tt;

@@ -31,3 +31,4 @@ pub mod WitnessSteps
 pub mod WitnessCalls
 pub mod WitnessJoiner
 pub mod WitnessClaims
+pub mod BoardLaws

@@ -1,4 +1,4 @@
--- Own votes, received messages and due items handed back leave the shared part of a node's state and its last report as they are.
+-- Own votes, received messages and due items handed back leave the shared part of a node's state, its last report and its board as they are.
 -- Assumes nothing.
 use Prim.Native.Nat.{ℕ, _+_}
 use mathlib.Core.Path.{_≡_, refl, sym, ap, _∙_}
@@ -28,9 +28,9 @@ use Rattle.dynamic_honey_badger.specs.Received.{HandledOf, handledAs, quiet, fa
 use Rattle.reference.specs.Reference.{CandidateRef}
 use Rattle.agreement.specs.Shared.{candidateRef, refOf}
 
--- from state s to state t the shared part is kept, and so is the last report
+-- from state s to state t the shared part is kept, and so are the last report and the board
 abbrev pub Keeps : StateOf → StateOf → Type 0
-Keeps s t = (refOf t ≡ refOf s) × (t .last ≡ s .last)
+Keeps s t = (refOf t ≡ refOf s) × (t .last ≡ s .last) × (t .counter .board ≡ s .counter .board)
 
 module _ (z : Sizes) (s : StateOf) where
   -- an own vote changes pending votes only
@@ -39,9 +39,9 @@ module _ (z : Sizes) (s : StateOf) where
   vote-kept c = go (isValidator s) (nextNum (mapFound numOf (lookup voterOf (s .counter .pending) (s .counter .our-id))))
     where
       go : (b : Bool) (x : Outcome ℕ) → Keeps s (cond {A = VotedOf} b (signedIn s (signedWith z (s .counter) c x)) (votedAs s (done nothing)) .state)
-      go true (done n) = (refl, refl)
-      go true (refused n) = (refl, refl)
-      go false x = (refl, refl)
+      go true (done n) = (refl, refl, refl)
+      go true (refused n) = (refl, refl, refl)
+      go false x = (refl, refl, refl)
 
   -- `vote_for`, on bytes
   pub vote-for-kept : (bytes : List ℕ) → Keeps s (voteForBytes z s bytes .state)
@@ -50,7 +50,7 @@ module _ (z : Sizes) (s : StateOf) where
     where
       go : (x : Read ChangeOf) → Keeps s (voteForRead z s x .state)
       go (value c at) = vote-kept c
-      go (refuse n) = (refl, refl)
+      go (refuse n) = (refl, refl, refl)
 
   -- `vote_to_add`
   pub vote-to-add-kept : (id key : ℕ) → Keeps s (voteToAdd z s id key .state)
@@ -59,10 +59,10 @@ module _ (z : Sizes) (s : StateOf) where
     where
       go : (a b c : Bool) (x : ChangeOf)
           → Keeps s (cond {A = VotedOf} a (votedAs s (refused 2)) (cond b (cond c (votedAs s (refused 13)) (voteFor z s x)) (votedAs s (done nothing))) .state)
-      go true b c x = (refl, refl)
-      go false true true x = (refl, refl)
+      go true b c x = (refl, refl, refl)
+      go false true true x = (refl, refl, refl)
       go false true false x = vote-kept x
-      go false false c x = (refl, refl)
+      go false false c x = (refl, refl, refl)
 
   -- `vote_to_remove`
   pub vote-to-remove-kept : (id : ℕ) → Keeps s (voteToRemove z s id .state)
@@ -75,14 +75,14 @@ module _ (z : Sizes) (s : StateOf) where
   pending-kept v = go (pendingEffect (s .counter) v)
     where
       go : (e : counter.VoteEffect) → Keeps s (votedIn s (afterPending z (s .counter) v e) .state)
-      go counter.stored = (refl, refl)
-      go counter.nothing-new = (refl, refl)
-      go (counter.fault k) = (refl, refl)
+      go counter.stored = (refl, refl, refl)
+      go counter.nothing-new = (refl, refl, refl)
+      go (counter.fault k) = (refl, refl, refl)
 
   -- a stored message is the node's own
   stored-kept : (t : StateOf) (x : Outcome (List SignedKeyGenMsgOf)) → Keeps s t → Keeps s (storedIn s t x .state)
   stored-kept t (done ms) e = e
-  stored-kept t (refused n) e = (refl, refl)
+  stored-kept t (refused n) e = (refl, refl, refl)
 
   -- a received key message changes counts and store only
   counted-kept : (m : SignedKeyGenMsgOf) (n : ℕ) (g : KeyGenStateOf) (x : CountedOf) → s .key-gen ≡ found g → candidateRef (x .state) ≡ candidateRef g → Keeps s (countedIn z s m n x .state)
@@ -95,8 +95,8 @@ module _ (z : Sizes) (s : StateOf) where
 
       go : (b : Bool)
           → Keeps s (cond {A = HandledOf} b (handledAs (withKeyGen s (found (x .state))) (fault TooManyKeyGenMessages)) (storedIn s (withKeyGen s (found (x .state))) (pushed z (s .store) m)) .state)
-      go true = (same, refl)
-      go false = stored-kept (withKeyGen s (found (x .state))) (pushed z (s .store) m) (same, refl)
+      go true = (same, refl, refl)
+      go false = stored-kept (withKeyGen s (found (x .state))) (pushed z (s .store) m) (same, refl, refl)
 
   counts-kept : (g : KeyGenStateOf) (id : ℕ) → candidateRef (countMessages z (nodesIn s) g id .state) ≡ candidateRef g
   unfolding countMessages
@@ -112,8 +112,8 @@ module _ (z : Sizes) (s : StateOf) where
     where
       go : (b : Bool) (g : Found KeyGenStateOf) → s .key-gen ≡ g → Keeps s (cond {A = HandledOf} b (keyGenIn z s m g) (handledAs s (fault InvalidKeyGenMessageSignature)) .state)
       go true (found g) e = counted-kept m (nodeCount (g .key-gen)) g (countMessages z (nodesIn s) g (m .id)) e (counts-kept g (m .id))
-      go true nothing e = (refl, refl)
-      go false g e = (refl, refl)
+      go true nothing e = (refl, refl, refl)
+      go false g e = (refl, refl, refl)
 
   -- a received message
   pub message-kept : (sender : ℕ) (bytes : List ℕ) → Keeps s (received z s sender bytes .state)
@@ -126,13 +126,13 @@ module _ (z : Sizes) (s : StateOf) where
 
       by-era : (a b : Bool) (x : MessageContent)
           → Keeps s (cond {A = HandledOf} a (handledAs s (fault UnexpectedDhbMessageEra)) (cond b (handledAs s quiet) (receivedNow z s sender x)) .state)
-      by-era true b x = (refl, refl)
-      by-era false true x = (refl, refl)
+      by-era true b x = (refl, refl, refl)
+      by-era false true x = (refl, refl, refl)
       by-era false false x = now x
 
       go : (x : Read MessageContent) → Keeps s (receivedRead z s sender x .state)
       go (value x c) = by-era (ltb (eraOf s) (messageEra x)) (ltb (messageEra x) (eraOf s)) x
-      go (refuse n) = (refl, refl)
+      go (refuse n) = (refl, refl, refl)
 
   -- a due item handed back
   pub due-kept : (bytes : List ℕ) → Keeps s (returned z s bytes .state)
@@ -141,11 +141,11 @@ module _ (z : Sizes) (s : StateOf) where
     where
       by-era : (a b : Bool) (m : SignedKeyGenMsgOf)
           → Keeps s (cond {A = HandledOf} a (cond b (storedIn s s (pushed z (s .store) m)) (handledAs s quiet)) (handledAs s quiet) .state)
-      by-era true true m = stored-kept s (pushed z (s .store) m) (refl, refl)
-      by-era true false m = (refl, refl)
-      by-era false b m = (refl, refl)
+      by-era true true m = stored-kept s (pushed z (s .store) m) (refl, refl, refl)
+      by-era true false m = (refl, refl, refl)
+      by-era false b m = (refl, refl, refl)
 
       go : (x : Read MessageContent) → Keeps s (returnedRead z s x .state)
       go (value (keyGen era m sig) c) = by-era (eqb era (eraOf s)) (isValidator s) (signedBy era (s .counter .our-id) m sig)
-      go (value (signedVote v) c) = (refl, refl)
-      go (refuse n) = (refl, refl)
+      go (value (signedVote v) c) = (refl, refl, refl)
+      go (refuse n) = (refl, refl, refl)

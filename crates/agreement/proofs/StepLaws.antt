@@ -21,7 +21,7 @@ use Rattle.fault_log.specs.declared.Fault.{Fault}
 use Rattle.votes.specs.Votes.{SignedVoteOf}
 use Rattle.signed_votes.specs.SignedVotes.{voterOf, numOf}
 use Rattle.vote_counter.specs.VoteCounter as counter
-use Rattle.vote_counter.specs.VoteCounter.{atOrBelow, obsolete, isKey, validVote, committedEffect, addCommitted, afterCommitted}
+use Rattle.vote_counter.specs.VoteCounter.{atOrBelow, obsolete, isKey, validVote, voteEffect, addCommitted, afterCommitted}
 use Rattle.sync_key_gen.specs.SyncKeyGen.{PartOf, AckOf}
 use Rattle.key_gen.specs.KeyGen as key-gen
 use Rattle.key_gen.specs.KeyGen.{ProposalOf, KeyGenOf, Handled, handled, withParts, observes, byProposer, rowEffect, valueEffect, recordPart, partOfIndex, partBy, handlePart, acked, recordAck, isHere, ackOfIndex, ackBy, handleAck}
@@ -76,7 +76,7 @@ old-is v nothing = refl
 
 -- a committed vote
 pub vote-shared : (z : Sizes) (p : ℕ) (w : WorkOf) (v : SignedVoteOf) → length (w .faults) < z .faults → refWork (committedVote z p w v) ≡ refVote z p (refWork w) v
-unfolding committedVote addCommitted committedEffect obsolete validVote refVote
+unfolding committedVote addCommitted voteEffect obsolete validVote refVote
 vote-shared z p w v room =
     rw (old-is v (lookup byVoter (w .state .counter .committed) (v .voter)), key-is (v .sig) (keyOf (w .state .counter .nodes) (v .voter)))
     (go (atOrBelow (numOf v) (mapFound numOf (lookup voterOf (w .state .counter .committed) (v .voter)))) (eqb (v .vote .era) (w .state .counter .era))

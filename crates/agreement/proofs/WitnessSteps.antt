@@ -15,7 +15,7 @@ use Rattle.honey_badger.specs.EncryptionSchedule.{readSchedule, scheduleBytes}
 use Rattle.change.specs.Change.{sameChange, readChange, changeBytes}
 use Rattle.votes.specs.Votes.{readVote, voteBytes, readSignedVote, signedBytes}
 use Rattle.winner.specs.Winner.{support, winnerAfter, winner}
-use Rattle.vote_counter.specs.VoteCounter.{obsolete, validVote, committedEffect, addCommitted, pendingEffect, addPending, signVoteFor, computeWinner}
+use Rattle.vote_counter.specs.VoteCounter.{obsolete, validVote, voteEffect, addCommitted, pendingEffect, addPending, signVoteFor, computeWinner}
 use Rattle.sync_key_gen.specs.SyncKeyGen.{readHandles, handlesBytes, readPart}
 use Rattle.key_gen.specs.KeyGen.{rowEffect, valueEffect, recordPart, partOfIndex, handlePart, acked, recordAck, ackOfIndex, handleAck, complete, countComplete, enough, ready}
 use Rattle.key_gen_state.specs.KeyGenState.{senderPlace, countMessages}
@@ -59,7 +59,7 @@ add-cast = refl
 
 -- the first batch: the vote wins, a new era begins, key generation starts
 pub added-reported : processed base voted addBatch ≡ record { state = added; answer = done addReport }
-unfolding processed batchRow1 processedContribs batchRow4 messageCount some batchRow15 row5 batchRow7 emptyWins committed committedContrib committedVote addCommitted committedEffect obsolete lookup validVote keyOf insertWithin hasKey insert isMember computeWinner winner winnerAfter support sameChange eqList sameNode maxFaulty decide mapWins keyGenFor newEra fromEra filter
+unfolding processed batchRow1 processedContribs batchRow4 messageCount some batchRow15 row5 batchRow7 emptyWins committed committedContrib committedVote addCommitted voteEffect obsolete lookup validVote keyOf insertWithin hasKey insert isMember computeWinner winner winnerAfter support sameChange eqList sameNode maxFaulty decide mapWins keyGenFor newEra fromEra filter
 added-reported = ap (processedRead base voted addBatch) adding-read
 
 -- 02, CR 1: behind it a batch of the closed era is refused by 15
@@ -78,7 +78,7 @@ part-received = refl
 
 -- the second batch: key generation is ready, so the vote in it does not decide
 pub completed-reported : processed base storedBoth completeBatch ≡ record { state = completed; answer = done giverReport }
-unfolding processed batchRow1 processedContribs batchRow4 messageCount some batchRow15 row5 validUnder keyOf isMember batchRow7 emptyWins committed committedContrib committedVote addCommitted committedEffect obsolete lookup validVote insertWithin hasKey insert committedMessage messageDone handlePart indexFrom partOfIndex recordPart rowEffect handleAck ackOfIndex recordAck acked valueEffect without filter sameSigned sameMessage sameHeaded eqList ready enough countComplete complete maxFaulty decide recipe someShort newEra fromEra
+unfolding processed batchRow1 processedContribs batchRow4 messageCount some batchRow15 row5 validUnder keyOf isMember batchRow7 emptyWins committed committedContrib committedVote addCommitted voteEffect obsolete lookup validVote insertWithin hasKey insert committedMessage messageDone handlePart indexFrom partOfIndex recordPart rowEffect handleAck ackOfIndex recordAck acked valueEffect without filter sameSigned sameMessage sameHeaded eqList ready enough countComplete complete maxFaulty decide recipe someShort newEra fromEra
 completed-reported = ap (processedRead base storedBoth completeBatch) completing-read
 
 -- an own vote for a node less, and the joiner's vote received
@@ -92,5 +92,5 @@ vote-received = refl
 
 -- the second batch at the joiner, with its own verdicts
 pub joiner-reported : processed base joinerOpened joinerBatch ≡ record { state = joinerCompleted; answer = done joinerReport }
-unfolding processed batchRow1 processedContribs batchRow4 messageCount some batchRow15 row5 validUnder keyOf isMember batchRow7 emptyWins committed committedContrib committedVote addCommitted committedEffect obsolete lookup validVote insertWithin hasKey insert committedMessage messageDone handlePart indexFrom partOfIndex recordPart rowEffect handleAck ackOfIndex recordAck acked valueEffect without filter ready enough countComplete complete maxFaulty decide recipe someShort newEra fromEra
+unfolding processed batchRow1 processedContribs batchRow4 messageCount some batchRow15 row5 validUnder keyOf isMember batchRow7 emptyWins committed committedContrib committedVote addCommitted voteEffect obsolete lookup validVote insertWithin hasKey insert committedMessage messageDone handlePart indexFrom partOfIndex recordPart rowEffect handleAck ackOfIndex recordAck acked valueEffect without filter ready enough countComplete complete maxFaulty decide recipe someShort newEra fromEra
 joiner-reported = ap (processedRead base joinerOpened joinerBatch) completing-read

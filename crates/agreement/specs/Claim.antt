@@ -13,6 +13,7 @@ use Rattle.params.specs.declared.Params.{Params}
 use Rattle.params.specs.Params.{readParams}
 use Rattle.join_plan.specs.JoinPlan.{PlanOf, readPlan}
 use Rattle.dynamic_honey_badger.specs.State.{StateOf}
+use Rattle.dynamic_honey_badger.specs.Asked.{boardAt}
 use Rattle.reference.specs.Reference.{RefState, openRef}
 use Rattle.reference.specs.Step.{refRun, refAnswers}
 use Rattle.agreement.specs.Shared.{refOf, planRef}
@@ -55,3 +56,7 @@ UpToEra n = (n ≡ 1) ⊎ ((n ≡ 2) ⊎ ((n ≡ 3) ⊎ ((n ≡ 4) ⊎ (n ≡ 15
 abbrev pub SameOutcome : Sizes → StateOf → List Call → List Call → Type 0
 SameOutcome z s cs ds =
     (run z s cs ≡ run z s ds) × (sharedBatches z s cs ≡ sharedBatches z s ds) × (answers z s cs ≡ answers z s ds) × (reports z s cs ≡ reports z s ds)
+
+-- 02, CR 3: two states have one board: the rows that are kept, and what is handed out at each place
+abbrev pub OneBoard : StateOf → StateOf → Type 0
+OneBoard s t = (s .counter .board ≡ t .counter .board) × ((n : ℕ) → boardAt s n ≡ boardAt t n)

@@ -12,6 +12,7 @@ use Rattle.pub_key_map.specs.PubKeyMap.{MapOk}
 use Rattle.network_info.specs.NetworkInfo.{isMember}
 use Rattle.params.specs.Params.{ParamsOk}
 use Rattle.votes.specs.Votes.{SignedVoteOf, SignedVoteOk}
+use Rattle.board.specs.Board.{workedOut}
 use Rattle.key_gen.specs.KeyGen.{ProposalOf}
 use Rattle.key_gen_state.specs.KeyGenState.{KeyGenStateOf}
 use Rattle.key_gen_message.specs.KeyGenMessage.{SignedKeyGenMsgOf, SignedOk}
@@ -65,6 +66,8 @@ pub record Formed (z : Sizes) (s : StateOf) : Type 0 where
   pub params-ok : ParamsOk (s .params)
   pub pending-formed : VotesFormed z (nodesIn s) (s .counter .pending)
   pub committed-formed : VotesFormed z (nodesIn s) (s .counter .committed)
+  -- 02, CR 3: the board is the one worked out from the committed votes
+  pub board-worked : s .counter .board ≡ workedOut (s .counter .committed)
   pub key-gen-formed : RunningFormed z (s .counter .our-id) (s .key-gen)
   -- stored messages are of the current era, of the kind that bytes are read as, and within the store's limit
   pub store-era : All (λ (m : SignedKeyGenMsgOf). m .era ≡ eraOf s) (s .store)

@@ -134,7 +134,7 @@ completeStamp = found (record { epoch = 11; era = 9 })
 abbrev pub stateOf : Node → ℕ → List Node → List SignedVoteOf → Found KeyGenStateOf → List SignedKeyGenMsgOf → Found Stamp → StateOf
 stateOf n era ns pending g ms l =
     record {
-      counter = record { our-id = n .id; our-key = n .key; nodes = ns; era = era; pending = pending; committed = [] };
+      counter = record { our-id = n .id; our-key = n .key; nodes = ns; era = era; pending = pending; committed = []; board = [] };
       params = params;
       key-gen = g;
       store = ms;

@@ -34,7 +34,7 @@ use Rattle.steps.proofs.BatchLaws.{contrib-in-order}
 use Rattle.steps.proofs.KeepLaws.{messages-counter, votes-kept}
 use Rattle.commit.specs.declared.tally.Tally.{Tally}
 use Rattle.commit.specs.declared.Committed.{Committed}
-use Rattle.commit.specs.Tally.{VotesHeld, entriesOf, keptEntry}
+use Rattle.commit.specs.Tally.{Begun, begunWith, VotesHeld, entriesOf, keptEntry}
 use Rattle.commit.specs.Votes as voting
 use Rattle.commit.specs.Handled as handling
 use Rattle.commit.specs.Batch.{Lists, Holds, BatchCommitted}
@@ -43,7 +43,7 @@ use Rattle.commit.proofs.TurnLaws.{fold-more, fold-end}
 
 -- votes leave what key messages need
 messages-on : (proposer era : ℕ) (ns : List Node) (g : Found KeyGenStateOf) (verdicts : List ℕ) (n : ℕ) (indices₀ indices : List ℕ) (w : WorkOf) (vs : List SignedVoteOf)
-    → (s : List ℕ) (start : List SignedVoteOf) (t : Tally) → VotesHeld s start (foldl (committedVote base proposer) w vs) era ns t
+    → (s : List ℕ) (start : Begun) (t : Tally) → VotesHeld s start (foldl (committedVote base proposer) w vs) era ns t
     → MessagesHeld w era ns g verdicts n indices₀ indices → MessagesHeld (foldl (committedVote base proposer) w vs) era ns g verdicts n indices₀ indices
 messages-on proposer era ns g verdicts n indices₀ indices w vs s start t v h =
     let k = votes-kept base proposer vs w in
@@ -108,7 +108,7 @@ messagesAt d l =
     record { key-gen = running.stateOf (d .state); judged = d .judged; faults = d .faults; ids = l .ids; kinds = l .kinds; due = d .due; indices = l .indices }
 
 -- a contribution: its votes, then its messages
-module _ (s : List ℕ) (bytes : Bytes s) (era : ℕ) (ns : List Node) (verdicts : List ℕ) (start : List SignedVoteOf) (l₀ : Lists) where
+module _ (s : List ℕ) (bytes : Bytes s) (era : ℕ) (ns : List Node) (verdicts : List ℕ) (start : Begun) (l₀ : Lists) where
   contrib-holds : (w : WorkOf) (x : ContribOf) (k : Contrib) → Kept base s k x → (d d′ : Committed) (l l′ : Lists) (q : voting.Point) → q .tally ≡ d′ .tally
       → VotesTurn s era ns k (votesAt d l) q → MessagesTurn s era ns verdicts k (votesDone d q l) (messagesAt d′ l′)
       → Holds s era ns verdicts start l₀ w d l → Holds s era ns verdicts start l₀ (committedContrib base w x) d′ l′
@@ -135,7 +135,7 @@ abbrev pub BatchLeft : List ℕ → ℕ → List Node → List ℕ → Tally →
 BatchLeft s era ns verdicts t g index l₀ i d l =
     (st : StateOf) (cs : List ContribOf) → eraOf st ≡ era → nodesIn st ≡ ns → st .key-gen ≡ g
     → entriesOf t ≡ map keptEntry (st .counter .committed) → length (entriesOf t) ≤ base .nodes → EachKept base s (contribsIn index) cs
-    → (w : WorkOf) × (committed base st verdicts cs ≡ foldl (committedContrib base) w (drop i cs)) × Holds s era ns verdicts (st .counter .committed) l₀ w d l
+    → (w : WorkOf) × (committed base st verdicts cs ≡ foldl (committedContrib base) w (drop i cs)) × Holds s era ns verdicts (begunWith (st .counter)) l₀ w d l
 
 module _ (s : List ℕ) (era : ℕ) (ns : List Node) (verdicts : List ℕ) (t : Tally) (index : BatchIndex) (l₀ : Lists) where
   pub batch-starts : (state : KeyGenState)
@@ -146,7 +146,7 @@ module _ (s : List ℕ) (era : ℕ) (ns : List Node) (verdicts : List ℕ) (t : 
     refl,
     record {
       faults = record { count = refl; by-id = sym (filled-none (l₀ .ids)); by-kind = sym (filled-none (l₀ .kinds)) };
-      votes = votes-start s (st .counter .committed) era ns t (begun st verdicts) e n refl v r;
+      votes = votes-start s (begunWith (st .counter)) era ns t (begun st verdicts) e n refl v r;
       messages = record { by-era = e; by-map = n; by-key-gen = k; by-verdicts = refl; count = refl; by-index = sym (filled-none (l₀ .indices)); all-acks = refl };
     },
   )
@@ -161,7 +161,7 @@ module _ (s : List ℕ) (era : ℕ) (ns : List Node) (verdicts : List ℕ) (t : 
         let x = kept-next base s (index .contribs) (index .count) cs h i b in (
           committedContrib base (o .0) (x .0),
           o .1 ∙ fold-more (committedContrib base) (o .0) cs i (x .0) (x .2) _ refl,
-          contrib-holds s bytes era ns verdicts (st .counter .committed) l₀ (o .0) (x .0) _ (x .1) d d′ l l′ q e v m (o .2),
+          contrib-holds s bytes era ns verdicts (begunWith (st .counter)) l₀ (o .0) (x .0) _ (x .1) d d′ l l′ q e v m (o .2),
         )
 
     pub batch-ends : length (contribsIn index) ≤ i → BatchCommitted s era ns verdicts t g index d l₀ l

@@ -1,22 +1,23 @@
 -- A vote of a batch put among the committed votes, and its entry among theirs: they stay in step.
 -- Assumes nothing.
 use Prim.Native.Nat.{ℕ, _+_, _≤_, _<_, max}
-use mathlib.Core.Path.{_≡_, sym, ap, _∙_}
+use mathlib.Core.Path.{_≡_, refl, sym, ap, _∙_}
 use mathlib.Core.List.{List, [], _∷_, map}
-use mathlib.Core.Bool.{Bool, true, false, cond}
+use mathlib.Core.Bool.{Bool, true, false}
 use native.Mathlib.Omega.{arith}
-use lib.Dec.{ltb}
 use lib.ListN.{length, length-map}
-use Rattle.lists.specs.Lists.{insert, hasKey, insertWithin}
-use Rattle.lists.proofs.SortedLaws.{map-hasKey}
+use Rattle.lists.specs.Lists.{insert, hasKey, insertWithin, takesPlace}
+use Rattle.lists.proofs.ListLaws.{cond-yes}
+use Rattle.lists.proofs.SortedLaws.{map-hasKey, within-taken, within-left}
 use Rattle.pub_key_map.specs.declared.Node.{Node}
 use Rattle.votes.specs.Votes.{SignedVoteOf}
 use Rattle.signed_votes.specs.SignedVotes.{voterOf}
-use Rattle.vote_counter.specs.VoteCounter.{obsolete}
+use Rattle.board.specs.declared.BoardRow.{BoardRow}
+use Rattle.vote_counter.specs.VoteCounter.{obsolete, boardAfter}
 use Rattle.commit.specs.declared.tally.Entry.{Entry}
-use Rattle.commit.specs.Tally.{entryVoter, Fresh, Before, Tallied, none, kept, replaced, added}
+use Rattle.commit.specs.Tally.{entryVoter, anyFresh, Fresh, Before, Tallied, none, kept, replaced, added}
 use Rattle.commit.proofs.InsertLaws.{Order, less, same, more, order, insert-past, insert-over, insert-before}
-use Rattle.commit.proofs.TallyLaws.{other-voter, own-voter, not-before, lower, tallied-voters}
+use Rattle.commit.proofs.TallyLaws.{put-fresh, other-voter, own-voter, not-before, lower, tallied-voters}
 
 -- a vote before another is before those that the other is before
 before-too : (v u : SignedVoteOf) (xs : List SignedVoteOf) → voterOf v ≤ voterOf u → Before u xs → Before v xs
@@ -88,27 +89,40 @@ module _ (s : List ℕ) (era : ℕ) (ns : List Node) (v : SignedVoteOf) (a : Ent
           ahead x e (g .numbers .by-voter) vs es low xs l
           (added {low = low} f h (before-too v x xs (omega arith) b) (not-before s era ns v (added {low = low} g k b w t) o) (added {low = voterOf v + 1} g (omega arith) b w t))
 
+  -- votes and entries have the same voters, so both have a place for the vote or both have none
+  module _ {low : ℕ} {xs vs : List SignedVoteOf} {es : List Entry} (t : Tallied s era ns low xs vs es) where
+    voters : map voterOf vs ≡ map entryVoter es
+    voters = tallied-voters s era ns t
+
+    long : length es ≡ length vs
+    long = sym (length-map es entryVoter) ∙ sym (ap length voters) ∙ length-map vs voterOf
+
+    has : hasKey entryVoter (a .voter) es ≡ hasKey voterOf (voterOf v) vs
+    has =
+        map-hasKey entryVoter (λ k. k) (a .voter) es ∙ ap (hasKey (λ k. k) (a .voter)) (sym voters) ∙ sym (map-hasKey voterOf (λ k. k) (a .voter) vs)
+        ∙ ap (λ (k : ℕ). hasKey voterOf k vs) (f .numbers .by-voter)
+
+    takes : (limit : ℕ) → takesPlace entryVoter limit (a .voter) es ≡ takesPlace voterOf limit (voterOf v) vs
+    unfolding takesPlace
+    takes limit = rw (has, long)
+
   -- the same where there is room for a limit only
   pub within-tallied : {xs vs : List SignedVoteOf} {es : List Entry} (limit : ℕ) → Tallied s era ns 0 xs vs es → obsolete vs v ≡ false
       → Tallied s era ns 0 xs (insertWithin voterOf limit v vs) (insertWithin entryVoter limit a es)
-  unfolding insertWithin
-  within-tallied {xs} {vs} {es} limit t o = rw (has, long) (go (hasKey voterOf (voterOf v) vs) (ltb (length vs) limit))
+  within-tallied {xs} {vs} {es} limit t o = go (takesPlace voterOf limit (voterOf v) vs) refl
     where
-      voters : map voterOf vs ≡ map entryVoter es
-      voters = tallied-voters s era ns t
+      go : (b : Bool) → takesPlace voterOf limit (voterOf v) vs ≡ b → Tallied s era ns 0 xs (insertWithin voterOf limit v vs) (insertWithin entryVoter limit a es)
+      go true e = rw (within-taken voterOf limit v vs e, within-taken entryVoter limit a es (takes t limit ∙ e)) (insert-tallied t (omega arith) o)
+      go false e = rw (within-left voterOf limit v vs e, within-left entryVoter limit a es (takes t limit ∙ e)) t
 
-      long : length es ≡ length vs
-      long = sym (length-map es entryVoter) ∙ sym (ap length voters) ∙ length-map vs voterOf
-
-      has : hasKey entryVoter (a .voter) es ≡ hasKey voterOf (voterOf v) vs
-      has =
-          map-hasKey entryVoter (λ k. k) (a .voter) es ∙ ap (hasKey (λ k. k) (a .voter)) (sym voters) ∙ sym (map-hasKey voterOf (λ k. k) (a .voter) vs)
-          ∙ ap (λ (k : ℕ). hasKey voterOf k vs) (f .numbers .by-voter)
-
-      put : Tallied s era ns 0 xs (insert voterOf v vs) (insert entryVoter a es)
-      put = insert-tallied t (omega arith) o
-
-      go : (p q : Bool) → Tallied s era ns 0 xs (cond p (insert voterOf v vs) (cond q (insert voterOf v vs) vs)) (cond p (insert entryVoter a es) (cond q (insert entryVoter a es) es))
-      go true q = put
-      go false true = put
-      go false false = t
+  -- the board behind the vote: worked out where it took a place, and then its entry is of this batch; else as it was
+  pub put-board : {low : ℕ} {xs vs : List SignedVoteOf} {es : List Entry} (limit : ℕ) → Tallied s era ns low xs vs es → (now before : List BoardRow)
+      → now ≡ boardAfter (anyFresh es) vs before
+      → boardAfter (takesPlace voterOf limit (voterOf v) vs) (insertWithin voterOf limit v vs) now
+      ≡ boardAfter (anyFresh (insertWithin entryVoter limit a es)) (insertWithin voterOf limit v vs) before
+  put-board {low} {xs} {vs} {es} limit t now before h = go (takesPlace voterOf limit (voterOf v) vs) refl
+    where
+      go : (b : Bool) → takesPlace voterOf limit (voterOf v) vs ≡ b
+          → boardAfter b (insertWithin voterOf limit v vs) now ≡ boardAfter (anyFresh (insertWithin entryVoter limit a es)) (insertWithin voterOf limit v vs) before
+      go true e = sym (cond-yes _ before (ap anyFresh (within-taken entryVoter limit a es (takes t limit ∙ e)) ∙ put-fresh a es (f .marked)))
+      go false e = rw (within-left voterOf limit v vs e, within-left entryVoter limit a es (takes t limit ∙ e)) h

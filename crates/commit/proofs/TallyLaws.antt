@@ -5,16 +5,17 @@ use mathlib.Core.Path.{_≡_, refl, sym, ap, _∙_}
 use mathlib.Core.List.{List, [], _∷_, map}
 use mathlib.Core.Bool.{Bool, true, false, cond}
 use native.Mathlib.Omega.{arith}
-use lib.Dec.{leb, eqb}
+use lib.Dec.{leb, ltb, eqb}
 use lib.ListN.{length}
 use borrow.Author.Tests.{lt-leb, leb-false, eq-eqb, ne-eqb}
-use Rattle.lists.specs.Lists.{Found, found, nothing, mapFound, lookup}
+use Rattle.lists.specs.Lists.{Found, found, nothing, mapFound, lookup, insert}
+use Rattle.lists.proofs.ListLaws.{false-true, cond-yes, cond-no}
 use Rattle.pub_key_map.specs.declared.Node.{Node}
 use Rattle.votes.specs.Votes.{SignedVoteOf}
 use Rattle.signed_votes.specs.SignedVotes.{voterOf, numOf}
 use Rattle.vote_counter.specs.VoteCounter.{atOrBelow, obsolete}
 use Rattle.commit.specs.declared.tally.Entry.{Entry}
-use Rattle.commit.specs.Tally.{entryVoter, entryNum, keptEntry, outdated, Numbered, Tallied, none, kept, replaced, added}
+use Rattle.commit.specs.Tally.{entryVoter, entryNum, keptEntry, outdated, anyFresh, Numbered, Tallied, none, kept, replaced, added}
 use Rattle.commit.proofs.InsertLaws.{Order, less, same, more, order}
 
 -- the first of some votes is another voter's: those behind it decide
@@ -36,6 +37,27 @@ newer-still u v xs e l h = go (lookup voterOf xs (voterOf u)) (rw e at h)
     go (found x) k = lt-leb (numOf u) (numOf x) (omega (arith, leb-false (numOf v) (numOf x) k))
     go nothing k = refl
 
+-- none of the entries before a batch is of it
+pub none-fresh : (vs : List SignedVoteOf) → anyFresh (map keptEntry vs) ≡ false
+unfolding anyFresh
+none-fresh [] = refl
+none-fresh (v ∷ vs) = none-fresh vs
+
+-- one that is put in is
+pub put-fresh : (a : Entry) (es : List Entry) → a .fresh ≡ true → anyFresh (insert entryVoter a es) ≡ true
+unfolding anyFresh insert
+put-fresh a [] f = cond-yes true false f
+put-fresh a (e ∷ es) f = go (ltb (e .voter) (a .voter)) (eqb (e .voter) (a .voter)) (put-fresh a es f)
+  where
+    past : (b : Bool) → anyFresh (insert entryVoter a es) ≡ true → cond b true (anyFresh (insert entryVoter a es)) ≡ true
+    past true h = refl
+    past false h = h
+
+    go : (p q : Bool) → anyFresh (insert entryVoter a es) ≡ true → anyFresh (cond p (e ∷ insert entryVoter a es) (cond q (a ∷ es) (a ∷ e ∷ es))) ≡ true
+    go true q h = past (e .fresh) h
+    go false true h = cond-yes true (anyFresh es) f
+    go false false h = cond-yes true (anyFresh (e ∷ es)) f
+
 module _ (s : List ℕ) (era : ℕ) (ns : List Node) where
   -- before the first vote of a batch all are kept
   pub tallied-start : (low : ℕ) (vs : List SignedVoteOf) → Tallied s era ns low vs vs (map keptEntry vs)
@@ -55,6 +77,14 @@ module _ (s : List ℕ) (era : ℕ) (ns : List Node) where
   tallied-voters (kept f n t) = (λ j. sym (n .by-voter) j ∷ tallied-voters t j)
   tallied-voters (replaced f l q o t) = (λ j. sym (f .numbers .by-voter) j ∷ tallied-voters t j)
   tallied-voters (added f l b o t) = (λ j. sym (f .numbers .by-voter) j ∷ tallied-voters t j)
+
+  -- where no entry is of this batch the votes are those before it
+  pub tallied-same : {low : ℕ} {xs vs : List SignedVoteOf} {es : List Entry} → Tallied s era ns low xs vs es → anyFresh es ≡ false → xs ≡ vs
+  unfolding anyFresh
+  tallied-same none h = refl
+  tallied-same (kept {v} {e} {xs} {vs} {es} f n t) h = ap (λ (us : List SignedVoteOf). v ∷ us) (tallied-same t (sym (cond-no true (anyFresh es) f) ∙ h))
+  tallied-same (replaced {x} {v} {e} {xs} {vs} {es} f l q o t) h = absurd (false-true (sym h ∙ cond-yes true (anyFresh es) (f .marked)))
+  tallied-same {xs} (added {v} {e} {vs} {es} f l b o t) h = absurd (false-true (sym h ∙ cond-yes true (anyFresh es) (f .marked)))
 
   pub tallied-length : {low : ℕ} {xs vs : List SignedVoteOf} {es : List Entry} → Tallied s era ns low xs vs es → length xs ≤ length es
   tallied-length none = omega arith

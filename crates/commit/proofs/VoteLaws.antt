@@ -18,16 +18,16 @@ use Rattle.votes.specs.declared.VoteHead.{VoteHead}
 use Rattle.votes.specs.VoteHead.{headOf}
 use Rattle.votes.specs.Votes.{SignedVoteOf, readSignedVote}
 use Rattle.signed_votes.specs.SignedVotes.{voterOf, numOf}
-use Rattle.vote_counter.specs.VoteCounter.{CounterOf, withCommitted, obsolete, isKey, validVote, stored, nothing-new, fault, committedEffect, afterCommitted, addCommitted}
+use Rattle.vote_counter.specs.VoteCounter.{CounterOf, obsolete, isKey, validVote, stored, nothing-new, fault, voteEffect, afterCommitted, addCommitted}
 use Rattle.dynamic_honey_badger.specs.State.{withCounter}
 use Rattle.steps.specs.Steps.{WorkOf, withState, blame, votedAs, committedVote}
 use Rattle.commit.specs.declared.tally.Entry.{Entry}
 use Rattle.commit.specs.declared.tally.Tally.{Tally}
-use Rattle.commit.specs.Tally.{entriesOf, entryVoter, outdated, Fresh, VotesHeld}
+use Rattle.commit.specs.Tally.{entriesOf, entryVoter, outdated, Begun, Fresh, VotesHeld}
 use Rattle.commit.specs.Faults.{blamedIn, FaultsBy}
 use Rattle.commit.specs.Votes.{goodHead, Point, HeldAt}
 use Rattle.commit.proofs.TallyLaws.{outdated-is}
-use Rattle.commit.proofs.PutLaws.{within-tallied}
+use Rattle.commit.proofs.PutLaws.{within-tallied, put-board}
 use Rattle.commit.proofs.StayedLaws.{add-good}
 
 -- what a good head says
@@ -42,11 +42,11 @@ good-parts era ns h g = go (eqb (h .era) era) refl g
 -- a vote that is obsolete changes nothing; one that is not, and not good, is a fault
 module _ (c : CounterOf) (v : SignedVoteOf) where
   add-old : obsolete (c .committed) v ≡ true → addCommitted base c v ≡ record { counter = c; effect = nothing-new }
-  unfolding addCommitted committedEffect
+  unfolding addCommitted voteEffect
   add-old o = rw o
 
   add-bad : obsolete (c .committed) v ≡ false → goodHead (c .era) (c .nodes) (headOf v) ≡ false → addCommitted base c v ≡ record { counter = c; effect = fault InvalidCommittedVote }
-  unfolding addCommitted committedEffect validVote goodHead
+  unfolding addCommitted voteEffect validVote goodHead
   add-bad o g = rw o (go (eqb (v .vote .era) (c .era)) (isKey (v .sig) (keyOf (c .nodes) (voterOf v))) g)
     where
       go : (p q : Bool) → cond p q false ≡ false
@@ -55,7 +55,7 @@ module _ (c : CounterOf) (v : SignedVoteOf) where
       go true false k = refl
       go false q k = refl
 
-module _ (s : List ℕ) (era : ℕ) (ns : List Node) (start : List SignedVoteOf) (w : WorkOf) (t : Tally) (h : VotesHeld s start w era ns t) (v : SignedVoteOf) (proposer : ℕ) where
+module _ (s : List ℕ) (era : ℕ) (ns : List Node) (start : Begun) (w : WorkOf) (t : Tally) (h : VotesHeld s start w era ns t) (v : SignedVoteOf) (proposer : ℕ) where
   known : obsolete (w .state .counter .committed) v ≡ outdated (entriesOf t) (voterOf v) (numOf v)
   known = sym (outdated-is s era ns v (h .by-entry))
 
@@ -69,14 +69,14 @@ module _ (s : List ℕ) (era : ℕ) (ns : List Node) (start : List SignedVoteOf)
     vote-bad g = ap (votedAs base proposer w) (add-bad (w .state .counter) v (known ∙ o) (rw (h .by-era, h .by-map) g))
 
     vote-good : goodHead era ns (headOf v) ≡ true
-        → committedVote base proposer w v ≡ withState w (withCounter (w .state) (withCommitted (w .state .counter) (insertWithin voterOf (base .nodes) v (w .state .counter .committed))))
+        → committedVote base proposer w v ≡ withState w (withCounter (w .state) (afterCommitted base (w .state .counter) v stored .counter))
     unfolding committedVote
     vote-good g =
         let p = good-parts era ns (headOf v) g in
         ap (votedAs base proposer w) (add-good base (w .state .counter) v (known ∙ o) (p .0 ∙ sym (h .by-era)) (rw (h .by-map) (p .1)))
 
 -- a vote with a head, held of the work before and after it
-module _ (s : List ℕ) (era : ℕ) (ns : List Node) (start : List SignedVoteOf) (ids₀ kinds₀ : List ℕ) (w : WorkOf) (p : Point) (h : HeldAt s era ns start ids₀ kinds₀ w p)
+module _ (s : List ℕ) (era : ℕ) (ns : List Node) (start : Begun) (ids₀ kinds₀ : List ℕ) (w : WorkOf) (p : Point) (h : HeldAt s era ns start ids₀ kinds₀ w p)
     (v : SignedVoteOf) (hd : VoteHead) (same : hd ≡ headOf v) (proposer : ℕ) where
   number-told : (b : Bool) → outdated (entriesOf (p .tally)) (hd .voter) (hd .num) ≡ b → outdated (entriesOf (p .tally)) (voterOf v) (numOf v) ≡ b
   number-told b = subst (λ (x : VoteHead). outdated (entriesOf (p .tally)) (x .voter) (x .num) ≡ b) same
@@ -95,7 +95,7 @@ module _ (s : List ℕ) (era : ℕ) (ns : List Node) (start : List SignedVoteOf)
         let fs = f (w .faults) ids₀ kinds₀ (h .0 .count, h .0 .by-id, h .0 .by-kind) in
         rw (vote-bad s era ns start w (p .tally) (h .1) v proposer (number-told false o) (good-told false g)) (
           record { count = fs .0; by-id = fs .1; by-kind = fs .2 },
-          record { by-era = h .1 .by-era; by-map = h .1 .by-map; by-entry = h .1 .by-entry; room = h .1 .room },
+          record { by-era = h .1 .by-era; by-map = h .1 .by-map; by-entry = h .1 .by-entry; by-board = h .1 .by-board; room = h .1 .room },
         )
 
     module _ (g : goodHead era ns hd ≡ true) (place c : ℕ) (stands : readSignedVote base s place ≡ value v c) where
@@ -124,6 +124,7 @@ module _ (s : List ℕ) (era : ℕ) (ns : List Node) (start : List SignedVoteOf)
               by-era = h .1 .by-era;
               by-map = h .1 .by-map;
               by-entry = rw e (within-tallied s era ns v put fresh (base .nodes) (h .1 .by-entry) (known s era ns start w (p .tally) (h .1) v proposer ∙ n));
+              by-board = rw e (put-board s era ns v put fresh (base .nodes) (h .1 .by-entry) (w .state .counter .board) (start .board) (h .1 .by-board));
               room = l;
             },
           )

@@ -11,7 +11,8 @@ use Rattle.pub_key_map.specs.declared.Node.{Node}
 use Rattle.network_info.specs.NetworkInfo.{keyOf}
 use Rattle.votes.specs.Votes.{SignedVoteOf, readSignedVote}
 use Rattle.signed_votes.specs.SignedVotes.{voterOf, numOf}
-use Rattle.vote_counter.specs.VoteCounter.{atOrBelow, obsolete, isKey}
+use Rattle.board.specs.declared.BoardRow.{BoardRow}
+use Rattle.vote_counter.specs.VoteCounter.{CounterOf, atOrBelow, obsolete, isKey, boardAfter}
 use Rattle.steps.specs.Steps.{WorkOf}
 use Rattle.commit.specs.declared.tally.Entry.{Entry}
 use Rattle.commit.specs.declared.tally.Tally.{Tally}
@@ -76,9 +77,19 @@ module _ (s : List ℕ) (era : ℕ) (ns : List Node) where
     added : {low : ℕ} {v : SignedVoteOf} {e : Entry} {xs vs : List SignedVoteOf} {es : List Entry} → Fresh v e → low ≤ voterOf v → Before v xs
         → obsolete xs v ≡ false → Tallied (voterOf v + 1) xs vs es → Tallied low xs (v ∷ vs) (e ∷ es)
 
--- what a loop over votes holds of the work so far: era, map, and the committed votes; `start` are those before the batch
-pub record VotesHeld (s : List ℕ) (start : List SignedVoteOf) (w : WorkOf) (era : ℕ) (ns : List Node) (t : Tally) : Type 0 where
+-- the committed votes before a batch, and the board beside them
+pub record Begun : Type 0 where
+  pub votes : List SignedVoteOf
+  pub board : List BoardRow
+
+abbrev pub begunWith : CounterOf → Begun
+begunWith c = record { votes = c .committed; board = c .board }
+
+-- what a loop over votes holds of the work so far: era, map, and the committed votes; `start` are those before the batch. The board was worked out from the votes
+-- if one of this batch took a place, else it is the one before.
+pub record VotesHeld (s : List ℕ) (start : Begun) (w : WorkOf) (era : ℕ) (ns : List Node) (t : Tally) : Type 0 where
   pub by-era : w .state .counter .era ≡ era
   pub by-map : w .state .counter .nodes ≡ ns
-  pub by-entry : Tallied s era ns 0 start (w .state .counter .committed) (entriesOf t)
+  pub by-entry : Tallied s era ns 0 (start .votes) (w .state .counter .committed) (entriesOf t)
+  pub by-board : w .state .counter .board ≡ boardAfter (anyFresh (entriesOf t)) (w .state .counter .committed) (start .board)
   pub room : length (entriesOf t) ≤ base .nodes

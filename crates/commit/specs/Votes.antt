@@ -16,7 +16,7 @@ use Rattle.vote_counter.specs.VoteCounter.{isKey}
 use Rattle.steps.specs.Steps.{WorkOf, committedVote}
 use Rattle.steps.specs.Held.{FaultsHeld}
 use Rattle.commit.specs.declared.tally.Tally.{Tally}
-use Rattle.commit.specs.Tally.{VotesHeld}
+use Rattle.commit.specs.Tally.{Begun, VotesHeld}
 
 -- a vote's era is the current one, and its signature is under its voter's current key
 unfoldable pub goodHead : ℕ → List Node → VoteHead → Bool
@@ -30,13 +30,13 @@ pub record Point : Type 0 where
   pub kinds : List ℕ
 
 -- that is what it holds of the work w, of a batch that began with committed votes `start` and with lists that were lent as ids₀ and kinds₀
-abbrev pub HeldAt : List ℕ → ℕ → List Node → List SignedVoteOf → List ℕ → List ℕ → WorkOf → Point → Type 0
+abbrev pub HeldAt : List ℕ → ℕ → List Node → Begun → List ℕ → List ℕ → WorkOf → Point → Type 0
 HeldAt s era ns start ids₀ kinds₀ w p = FaultsHeld w (p .faults) ids₀ (p .ids) kinds₀ (p .kinds) × VotesHeld s start w era ns (p .tally)
 
 -- whatever work is held at one moment, what f makes of it is held at another
 abbrev pub Carried : List ℕ → ℕ → List Node → (WorkOf → WorkOf) → Point → Point → Type 0
 Carried s era ns f p q =
-    (w : WorkOf) (start : List SignedVoteOf) (ids₀ kinds₀ : List ℕ) → HeldAt s era ns start ids₀ kinds₀ w p → HeldAt s era ns start ids₀ kinds₀ (f w) q
+    (w : WorkOf) (start : Begun) (ids₀ kinds₀ : List ℕ) → HeldAt s era ns start ids₀ kinds₀ w p → HeldAt s era ns start ids₀ kinds₀ (f w) q
 
 -- from one moment to another a vote with a head was committed, which stands at a place of some bytes
 abbrev pub VoteCommitted : ℕ → List Node → ℕ → VoteHead → ℕ → Point → Point → Type 0

@@ -131,12 +131,16 @@ fn is_read(step: Step) -> bool
     }
 }
 
-// The votes of a batch that stayed, put into the counter. The counter is named in this function alone, since each hand that it passes through is a copy.
+// The votes of a batch that stayed, put into the counter; the board is worked out once behind them, if one took a place. The counter is named in this function
+// alone, since each hand that it passes through is a copy.
 pub fn put_votes(counter: VoteCounter, s: &[u8], t: Tally) -> VoteCounter
     ensures { λ r. ⌜ counterOf r ≡ foldl (putIn base (now (s .entry))) (counterOf counter) (entriesOf t) ⌝ }
 {
     let n = t.len();
-    let mut k = counter;
+    let era = counter.era;
+    let map = counter.pub_keys;
+    let mut votes = counter.committed;
+    let mut taken = false;
     let mut i: usize = 0;
     while i < n {
         let e = t.entries[i];
@@ -145,11 +149,12 @@ pub fn put_votes(counter: VoteCounter, s: &[u8], t: Tally) -> VoteCounter
             let step = r.step;
             if is_read(step) {
                 let x = r.signed;
-                let a = k.add_committed_vote(x);
-                k = a.counter;
+                let a = vote_counter::commit_vote(votes, era, map, x);
+                votes = a.votes;
+                taken = taken | a.taken;
             }
         }
         i += 1;
     }
-    k
+    counter.with_committed(votes, taken)
 }

@@ -22,9 +22,9 @@ use Rattle.dynamic_honey_badger.specs.State.{StateOf, newEra, keyGenFor, candid
 use Rattle.dynamic_honey_badger.proofs.PageEraLaws.{fresh}
 use Rattle.decision.specs.Decision.{isCandidate, mapWins, scheduleWins, decide}
 
--- the counter of a new era, with its map: no votes
+-- the counter of a new era, with its map: no votes, an empty board
 abbrev pub emptied : ℕ → List Node → StateOf → CounterOf
-emptied era ns s = record { our-id = s .counter .our-id; our-key = s .counter .our-key; nodes = ns; era = era; pending = []; committed = [] }
+emptied era ns s = record { our-id = s .counter .our-id; our-key = s .counter .our-key; nodes = ns; era = era; pending = []; committed = []; board = [] }
 
 module _ (z : Sizes) (era : ℕ) (s : StateOf) where
   -- 01, step 6: "If ready, the candidate map takes effect, key generation ends and a new era .. begins; report `Complete`", whatever has won; the recipe stands beside it, of the

@@ -9,12 +9,11 @@ use native.Mathlib.Numerals.{add-one}
 use native.Mathlib.Omega.{arith}
 use lib.Dec.{ltb}
 use lib.ListN.{length, drop}
-use Rattle.lists.specs.Lists.{found, nothing}
+use Rattle.lists.specs.Lists.{found, nothing, atPlace}
 use Rattle.lists.proofs.ListLaws.{rest-none}
 use Rattle.lists.proofs.FilterLaws.{filter-length}
 use Rattle.util.specs.MaxFaulty.{maxFaulty}
 use Rattle.votes.specs.Votes.{SignedVoteOf}
-use Rattle.vote_counter.specs.Answers.{pendingAt}
 use Rattle.vote_counter.specs.VoteCounter.{CounterOf, newer, pendingVotes}
 use Rattle.key_gen_message.specs.KeyGenMessage.{SignedKeyGenMsgOf}
 use Rattle.dynamic_honey_badger.specs.Asked.{someBy, someStored, shouldPropose}
@@ -26,20 +25,20 @@ unfolding pendingVotes
 pending-few c = filter-length (newer c) (c .pending)
 
 -- turns of a loop over the votes by place: the vote at the place, and those behind it
-vote-there : (vs : List SignedVoteOf) (i : ℕ) (v : SignedVoteOf) → pendingAt i vs ≡ found v → drop i vs ≡ v ∷ drop (suc i) vs
-unfolding pendingAt
+vote-there : (vs : List SignedVoteOf) (i : ℕ) (v : SignedVoteOf) → atPlace i vs ≡ found v → drop i vs ≡ v ∷ drop (suc i) vs
+unfolding atPlace
 vote-there [] i v e = let z : _≡_ {A = ℕ} 0 1 = cc in absurd (let y : ⊥ = omega arith in y)
 vote-there (x ∷ vs) zero v e = let f : x ≡ v = cc in ap (λ (u : SignedVoteOf). u ∷ vs) f
 vote-there (x ∷ vs) (suc i) v e = vote-there vs i v e
 
-none-there : (vs : List SignedVoteOf) (i : ℕ) → pendingAt i vs ≡ nothing → drop i vs ≡ []
-unfolding pendingAt
+none-there : (vs : List SignedVoteOf) (i : ℕ) → atPlace i vs ≡ nothing → drop i vs ≡ []
+unfolding atPlace
 none-there [] i e = rest-none [] i (omega arith)
 none-there (x ∷ vs) zero e = let z : _≡_ {A = ℕ} 0 1 = cc in absurd (let y : ⊥ = omega arith in y)
 none-there (x ∷ vs) (suc i) e = none-there vs i e
 
 module _ (id : ℕ) (vs : List SignedVoteOf) (i : ℕ) where
-  module _ (v : SignedVoteOf) (e : pendingAt i vs ≡ found v) where
+  module _ (v : SignedVoteOf) (e : atPlace i vs ≡ found v) where
     pub some-hit : v .voter ≡ id → someBy id (drop i vs) ≡ true
     unfolding someBy
     some-hit h = rw (vote-there vs i v e, eq-eqb (v .voter) id h)
@@ -48,7 +47,7 @@ module _ (id : ℕ) (vs : List SignedVoteOf) (i : ℕ) where
     unfolding someBy
     some-miss h = rw (add-one, vote-there vs i v e, ne-eqb (v .voter) id h)
 
-  pub some-none : pendingAt i vs ≡ nothing → someBy id (drop i vs) ≡ false
+  pub some-none : atPlace i vs ≡ nothing → someBy id (drop i vs) ≡ false
   unfolding someBy
   some-none e = rw (none-there vs i e)
 

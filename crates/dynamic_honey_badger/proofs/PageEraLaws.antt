@@ -28,12 +28,12 @@ use Rattle.joining.specs.Starting.{StartOf, startChecked, joinChecked}
 use Rattle.dynamic_honey_badger.specs.State.{StateOf, newEra, keyGenFor, partDue, started, joinedWith, joined}
 use Rattle.dynamic_honey_badger.specs.Asked.{row5, nextEpoch, someBy, shouldPropose}
 
--- 01: "A new era empties pending and committed votes and drops stored messages of lower eras": own id and key, parameters and key generation stay, and so does
--- the stamp of the last report
+-- 01: "A new era empties pending and committed votes and drops stored messages of lower eras", and so the board (02, CR 3); own id and key, parameters and key
+-- generation stay, and so does the stamp of the last report
 pub era-begins : (era : ℕ) (ns : List Node) (s : StateOf)
     → newEra era ns s
     ≡ record {
-      counter = record { our-id = s .counter .our-id; our-key = s .counter .our-key; nodes = ns; era = era; pending = []; committed = [] };
+      counter = record { our-id = s .counter .our-id; our-key = s .counter .our-key; nodes = ns; era = era; pending = []; committed = []; board = [] };
       params = s .params;
       key-gen = s .key-gen;
       store = fromEra era (s .store);
@@ -59,9 +59,9 @@ module _ (ns : List Node) (id era : ℕ) where
   pub no-part-due : isMember ns id ≡ false → partDue ns id era ≡ []
   no-part-due e = rw e
 
--- a state with no votes, nothing stored, nothing reported (02, CR 1: "none at the start and after joining"), and this key generation or none
+-- a state with no votes, an empty board, nothing stored, nothing reported (02, CR 1: "none at the start and after joining"), and this key generation or none
 abbrev pub opening : ℕ → ℕ → ℕ → List Node → Params → Found KeyGenStateOf → StateOf
-opening id key era ns p g = record { counter = record { our-id = id; our-key = key; nodes = ns; era = era; pending = []; committed = [] }; params = p; key-gen = g; store = []; last = nothing }
+opening id key era ns p g = record { counter = record { our-id = id; our-key = key; nodes = ns; era = era; pending = []; committed = []; board = [] }; params = p; key-gen = g; store = []; last = nothing }
 
 -- an accepted `new`: era, map and parameters given, no key generation
 pub new-opens : (z : Sizes) (id key era : ℕ) (map params : List ℕ) (x : StartOf) → startChecked z key map params ≡ done x

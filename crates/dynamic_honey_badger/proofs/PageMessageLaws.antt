@@ -159,6 +159,7 @@ module _ (z : Sizes) (s : StateOf) (sender : ℕ) (v : SignedVoteOf) where
                 era = s .counter .era;
                 pending = insertWithin (λ (x : SignedVoteOf). x .voter) (z .nodes) v (s .counter .pending);
                 committed = s .counter .committed;
+                board = s .counter .board;
               };
               params = s .params;
               key-gen = s .key-gen;

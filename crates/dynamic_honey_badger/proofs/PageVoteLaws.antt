@@ -57,6 +57,7 @@ module _ (z : Sizes) (s : StateOf) where
                 era = s .counter .era;
                 pending = insertWithin (λ (v : SignedVoteOf). v .voter) (z .nodes) (own num) (s .counter .pending);
                 committed = s .counter .committed;
+                board = s .counter .board;
               };
               params = s .params;
               key-gen = s .key-gen;

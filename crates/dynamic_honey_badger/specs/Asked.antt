@@ -1,4 +1,4 @@
--- What a host asks a node between batches: `should_propose`, `next_epoch`, `last_report`.
+-- What a host asks a node between batches: `should_propose`, `next_epoch`, `last_report`, the board.
 use Prim.Native.Nat.{ℕ, _+_}
 use mathlib.Core.List.{List, [], _∷_}
 use mathlib.Core.Bool.{Bool, true, false, cond}
@@ -9,7 +9,8 @@ use Rattle.bincode.specs.Outcome.{Outcome, done, refused}
 use Rattle.util.specs.MaxFaulty.{maxFaulty}
 use Rattle.key_gen_message.specs.KeyGenMessage.{SignedKeyGenMsgOf}
 use Rattle.votes.specs.Votes.{SignedVoteOf}
-use Rattle.vote_counter.specs.VoteCounter.{pendingVotes}
+use Rattle.board.specs.Board.{StandingOf}
+use Rattle.vote_counter.specs.VoteCounter.{pendingVotes, boardRow}
 use Rattle.dynamic_honey_badger.specs.State.{StateOf, Stamp, eraOf, nodesIn}
 use Rattle.dynamic_honey_badger.specs.declared.LastReport.{LastReport}
 use Rattle.dynamic_honey_badger.specs.declared.LastReport.the-variants as last
@@ -54,3 +55,7 @@ lastReport s = s .last
 abbrev pub saidLast : LastReport → Found Stamp
 saidLast (last.Report epoch era) = found (record { epoch = epoch; era = era })
 saidLast last.None = nothing
+
+-- 02, CR 3: the board by place, as the counter keeps it
+abbrev pub boardAt : StateOf → ℕ → Found StandingOf
+boardAt s n = boardRow (s .counter) n

@@ -2,17 +2,18 @@
 ghost use mathlib.Core.Path.{_≡_};
 ghost use mathlib.Core.Bool.{cond};
 ghost use lib.ListN.{length};
-ghost use Rattle.lists.specs.Lists.{found, nothing};
+ghost use Rattle.lists.specs.Lists.{found, nothing, atPlace};
 ghost use Rattle.bincode.specs.Sizes.{base};
 ghost use Rattle.pub_key_map.specs.PubKeyMap.{nodesOf};
 ghost use Rattle.change.specs.Change.{stateOf as progressOf};
 ghost use Rattle.network_info.specs.NetworkInfo.{keyOf};
+ghost use Rattle.board.specs.Board.{saidStanding, NoStandingEmpty};
 ghost use Rattle.vote_counter.specs.VoteCounter.{isKey, pendingVotes};
-ghost use Rattle.vote_counter.specs.Answers.{pendingAt, saidPending, NonePendingEmpty};
+ghost use Rattle.vote_counter.specs.Answers.{saidPending, NonePendingEmpty};
 ghost use Rattle.key_gen_message.specs.KeyGenMessage as key-gen;
 ghost use Rattle.key_gen_state.specs.KeyGenState as running;
 ghost use Rattle.message.specs.Message.{contentOf};
-ghost use Rattle.message_store.specs.MessageStore.{messageAt, saidStored, NoneStoredEmpty};
+ghost use Rattle.message_store.specs.MessageStore.{saidStored, NoneStoredEmpty};
 ghost use Rattle.filled.specs.Numbers.{DueIn};
 ghost use Rattle.joining.specs.declared.StartOutcome.the-variants.{Accepted};
 ghost use Rattle.dynamic_honey_badger.specs.State.{stateOf, inProgressMap, isValidator, candidateNodes, validUnder, partDue, openedHeld};
@@ -20,8 +21,9 @@ ghost use Rattle.dynamic_honey_badger.specs.State.{notOpened, started, s
 ghost use Rattle.dynamic_honey_badger.specs.OwnVotes.{votedOf, wasCast, NotCastKeeps, voteForBytes, voteToAdd, voteToRemove};
 ghost use Rattle.dynamic_honey_badger.specs.Received.{handledOf, MessageRefusedKeeps, received, messageEra};
 ghost use Rattle.dynamic_honey_badger.specs.Parts.{WantedFor, signedAs, CastFor, UncastKeeps, addedAs, keyMessage, JudgedKey, JudgedRead};
-ghost use Rattle.dynamic_honey_badger.specs.Asked.{nextEpoch, epochIn, saidNext, someBy, shouldPropose, lastReport, saidLast};
+ghost use Rattle.dynamic_honey_badger.specs.Asked.{nextEpoch, epochIn, saidNext, someBy, shouldPropose, lastReport, saidLast, boardAt};
 use bincode::Step;
+use board::Standing;
 use change::Change;
 use change::ChangeKind;
 use change::ChangeState;
@@ -658,7 +660,7 @@ impl DynamicHoneyBadger {
 
     // The stored message at a place, 0 first, in order of arrival.
     pub fn stored_message(self, place: usize) -> StoredMessage
-        ensures { λ r. ⌜ (saidStored r ≡ messageAt place (stateOf self .store)) × NoneStoredEmpty r ⌝ }
+        ensures { λ r. ⌜ (saidStored r ≡ atPlace place (stateOf self .store)) × NoneStoredEmpty r ⌝ }
     {
         let store = self.store;
         store.at(place)
@@ -666,10 +668,18 @@ impl DynamicHoneyBadger {
 
     // The pending vote at a place, 0 first, of those newer than their voter's committed vote.
     pub fn pending_vote(self, place: usize) -> PendingVote
-        ensures { λ r. ⌜ (saidPending r ≡ pendingAt place (pendingVotes (stateOf self .counter))) × NonePendingEmpty r ⌝ }
+        ensures { λ r. ⌜ (saidPending r ≡ atPlace place (pendingVotes (stateOf self .counter))) × NonePendingEmpty r ⌝ }
     {
         let counter = self.vote_counter;
         counter.pending_vote(place)
+    }
+
+    // The row of the board at a place, 0 first: a change and how many voters are for it.
+    pub fn board_row(self, place: usize) -> Standing
+        ensures { λ r. ⌜ (saidStanding r ≡ boardAt (stateOf self) place) × NoStandingEmpty r ⌝ }
+    {
+        let counter = self.vote_counter;
+        counter.board_row(place)
     }
 
     // Whether a pending vote of the own waits to be committed.

@@ -1,4 +1,4 @@
--- 01, "Half-marathon examples": the marked ones (*), in their order; and 02's key messages of a leaving node. A later layer adds its own kind of row here.
+-- 01, "Half-marathon examples": the marked ones (*), in their order; and 02's key messages of a leaving node and boards. A later layer adds its own kind of row here.
 use Prim.Native.Nat.{ℕ, zero, suc, _+_}
 use mathlib.Core.Path.{_≡_}
 use mathlib.Core.List.{List, [], _∷_}
@@ -10,7 +10,9 @@ use Rattle.util.specs.MaxFaulty.{maxFaulty}
 use Rattle.honey_badger.specs.declared.EncryptionSchedule.{EncryptionSchedule}
 use Rattle.honey_badger.specs.declared.EncryptionSchedule.the-variants.{Always, EveryNthEpoch, TickTock}
 use Rattle.honey_badger.specs.EncryptionSchedule.{useOnEpoch}
-use Rattle.change.specs.Change.{ChangeOf, nodeChange, encryptionSchedule}
+use Rattle.change.specs.Change.{ChangeOf, nodeChange, encryptionSchedule, sameChange}
+use Rattle.winner.specs.Board as board
+use Rattle.winner.specs.Board.{Cast}
 use Rattle.pub_key_map.specs.declared.Node.{Node}
 use Rattle.votes.specs.Votes.{VoteOf, SignedVoteOf, voteBytes}
 use Rattle.params.specs.declared.SubsetHandlingStrategy.the-variants.{Incremental}
@@ -34,6 +36,8 @@ pub data Row : Type 0 where
   moved : RefState → ℕ → List ContribOf → ℕ → ℕ → Row
   -- the faults that a batch with an inner epoch reports
   blamed : RefState → ℕ → List ContribOf → List Fault → Row
+  -- the board of some voters with their choices: counts and choices, in order (02, CR 3)
+  shown : List (Cast ChangeOf) → List (ℕ × ChangeOf) → Row
   -- a vote as bytes
   encoded : VoteOf → List ℕ → Row
   -- whether a schedule encrypts an epoch
@@ -57,6 +61,15 @@ partsFrom i (acks ∷ more) = record { proposer = i; commit = i + 100; acks = in
 abbrev pub votesFrom : ℕ → List ChangeOf → List SignedVoteOf
 votesFrom i [] = []
 votesFrom i (c ∷ more) = record { vote = record { change = c; era = 0; num = 0 }; voter = i; sig = i + 10 } ∷ votesFrom (i + 1) more
+
+-- voters from one on with a choice each, as the board takes them; and what of its rows is shown
+abbrev pub castsFrom : ℕ → List ChangeOf → List (Cast ChangeOf)
+castsFrom i [] = []
+castsFrom i (c ∷ more) = record { voter = i; choice = c } ∷ castsFrom (i + 1) more
+
+abbrev pub shownOf : List (board.Row ChangeOf) → List (ℕ × ChangeOf)
+shownOf [] = []
+shownOf (r ∷ rs) = (r .count, r .choice) ∷ shownOf rs
 
 -- the epoch of a report
 abbrev pub epochOf : Outcome RefReport → Outcome ℕ
@@ -116,6 +129,7 @@ Holds (won n choices r) = firstPast (maxFaulty n) (votesFrom 1 choices) ≡ r
 Holds (finished n acks b) = isReady (record { nodes = nodesFrom 1 n; parts = partsFrom 0 acks }) ≡ b
 Holds (moved s inner cs epoch era) = (epochOf (refBatch base s inner cs .answer) ≡ done epoch) × (refBatch base s inner cs .state .era ≡ era)
 Holds (blamed s inner cs fs) = faultsOf (refBatch base s inner cs .answer) ≡ done fs
+Holds (shown vs rs) = shownOf (board.board sameChange vs) ≡ rs
 Holds (encoded v bytes) = voteBytes v ≡ bytes
 Holds (encrypted x epoch b) = useOnEpoch x epoch ≡ done b
 
@@ -125,6 +139,13 @@ X = encryptionSchedule Always
 
 abbrev pub Y : ChangeOf
 Y = nodeChange (record { id = 1; key = 11 } ∷ [])
+
+-- and two that differ from X, but not in what they encrypt
+abbrev pub nth : ChangeOf
+nth = encryptionSchedule (EveryNthEpoch 1)
+
+abbrev pub both : ChangeOf
+both = encryptionSchedule (TickTock 1 0)
 
 unfoldable pub rows : List Row
 rows =
@@ -156,4 +177,12 @@ rows =
     ∷ encrypted (TickTock 2 3) 3 false
     -- 02, CR 2: each key message of a leaving node is one fault of it, whatever is wrong with it, and the batch is reported
     ∷ blamed (leavesIn 5) 3 (leaving 5) (faultOf 4 UnexpectedKeyGenPart ∷ faultOf 4 UnexpectedKeyGenPart ∷ faultOf 4 UnexpectedKeyGenAck ∷ faultOf 4 UnexpectedKeyGenPart ∷ [])
+    -- 02, CR 3: equal counts by lowest voter; then voter 1 goes over; counts of one, and three schedules that are equal in effect
+    ∷ shown (castsFrom 1 (X ∷ Y ∷ Y ∷ X ∷ [])) ((2, X) ∷ (2, Y) ∷ [])
+    ∷ shown (castsFrom 1 (Y ∷ Y ∷ Y ∷ X ∷ [])) ((3, Y) ∷ (1, X) ∷ [])
+    ∷ shown (castsFrom 1 (X ∷ Y ∷ [])) ((1, X) ∷ (1, Y) ∷ [])
+    ∷ shown (castsFrom 1 (nth ∷ X ∷ both ∷ X ∷ [])) ((2, X) ∷ (1, nth) ∷ (1, both) ∷ [])
+    -- the lowest voter decides, not the place, and nobody's board is empty
+    ∷ shown (record { voter = 4; choice = X } ∷ record { voter = 1; choice = Y } ∷ []) ((1, Y) ∷ (1, X) ∷ [])
+    ∷ shown [] []
     ∷ []

@@ -3,3 +3,5 @@ pub mod SortedLaws
 pub mod MarkedLaws
 pub mod KeptLaws
 pub mod FilterLaws
+pub mod PlaceLaws
+pub mod ViewLaws

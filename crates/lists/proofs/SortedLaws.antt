@@ -10,8 +10,8 @@ use lib.Dec.{ltb, eqb}
 use lib.ListN.{length, take, drop, getD, set, length-append, length-take, length-drop, List·getD-append, length-map}
 use lib.Seq.{set-at, take-at, take-suc, length-take-le, getD-take, split-at, take-take, take-set-lt}
 use borrow.Author.Tests.{lt-ltb, le-ltb, ltb-true, eq-eqb, ne-eqb, eqb-true}
-use Rattle.lists.specs.Lists.{found, nothing, mapFound, lookup, below, insert, hasKey, insertWithin}
-use Rattle.lists.proofs.ListLaws.{rest-more, rest-none}
+use Rattle.lists.specs.Lists.{found, nothing, mapFound, lookup, below, insert, hasKey, insertWithin, takesPlace}
+use Rattle.lists.proofs.ListLaws.{false-true, rest-more, rest-none}
 
 module _ {A : Type 0} (key : A → ℕ) where
   -- turns of the search for a place
@@ -95,6 +95,25 @@ module _ {A : Type 0} (key : A → ℕ) where
     pub within-new : hasKey key (key a) xs ≡ false → length xs < limit → insertWithin key limit a xs ≡ insert key a xs
     unfolding insertWithin
     within-new e h = rw (e, lt-ltb (length xs) limit h)
+
+    -- it gets a place, or it does not
+    pub within-taken : takesPlace key limit (key a) xs ≡ true → insertWithin key limit a xs ≡ insert key a xs
+    unfolding takesPlace insertWithin
+    within-taken = go (hasKey key (key a) xs) (ltb (length xs) limit)
+      where
+        go : (p q : Bool) → cond p true q ≡ true → cond p (insert key a xs) (cond q (insert key a xs) xs) ≡ insert key a xs
+        go true q e = refl
+        go false true e = refl
+        go false false e = absurd (false-true e)
+
+    pub within-left : takesPlace key limit (key a) xs ≡ false → insertWithin key limit a xs ≡ xs
+    unfolding takesPlace insertWithin
+    within-left = go (hasKey key (key a) xs) (ltb (length xs) limit)
+      where
+        go : (p q : Bool) → cond p true q ≡ false → cond p (insert key a xs) (cond q (insert key a xs) xs) ≡ xs
+        go true q e = absurd (false-true (sym e))
+        go false true e = absurd (false-true (sym e))
+        go false false e = refl
 
     pub within-full : hasKey key (key a) xs ≡ false → limit ≤ length xs → insertWithin key limit a xs ≡ xs
     unfolding insertWithin

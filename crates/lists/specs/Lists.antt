@@ -1,5 +1,5 @@
 -- Lists that code holds as an array with a count; equality; what is found by a key, and lists that are sorted by one.
-use Prim.Native.Nat.{ℕ, suc, _-_}
+use Prim.Native.Nat.{ℕ, zero, suc, _-_}
 use mathlib.Core.List.{List, [], _∷_, _++_}
 use mathlib.Core.Bool.{Bool, true, false, cond, _&&_}
 use lib.ListN.{length, replicate}
@@ -22,6 +22,13 @@ module _ {A : Type 0} where
 pub data Found (A : Type 0) : Type 0 where
   found : A → Found A
   nothing : Found A
+
+-- what is handed out by place, 0 first, none past the last
+module _ {A : Type 0} where
+  unfoldable pub atPlace : ℕ → List A → Found A
+  atPlace n [] = nothing
+  atPlace zero (x ∷ xs) = found x
+  atPlace (suc n) (x ∷ xs) = atPlace n xs
 
 module _ {A B : Type 0} (f : A → B) where
   abbrev pub mapFound : Found A → Found B
@@ -52,6 +59,10 @@ module _ {A : Type 0} (key : A → ℕ) where
   -- the same where the list has room for a limit only: a new key has no place in a full one
   unfoldable pub insertWithin : ℕ → A → List A → List A
   insertWithin limit a xs = cond (hasKey (key a) xs) (insert a xs) (cond (ltb (length xs) limit) (insert a xs) xs)
+
+  -- whether an element with the key gets a place so: one with it stands there, or there is room
+  unfoldable pub takesPlace : ℕ → ℕ → List A → Bool
+  takesPlace limit k xs = cond (hasKey k xs) true (ltb (length xs) limit)
 
 -- what the marked elements of an array stand for, each with its place, from place i on
 module _ {A B : Type 0} (mark : A → Bool) (view : ℕ → A → B) where

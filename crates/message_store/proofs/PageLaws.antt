@@ -7,13 +7,14 @@ use mathlib.Core.Bool.{Bool, true, false, not}
 use native.Mathlib.Omega.{arith}
 use lib.ListN.{length, length-append}
 use borrow.Author.Tests.{le-leb, lt-leb}
-use Rattle.lists.specs.Lists.{found, filter}
+use Rattle.lists.specs.Lists.{found, atPlace, filter}
 use Rattle.lists.proofs.FilterLaws.{filter-append, filter-length}
+use Rattle.lists.proofs.PlaceLaws.{at-between}
 use Rattle.bincode.specs.Sizes.{Sizes}
 use Rattle.bincode.specs.Outcome.{done}
 use Rattle.key_gen_message.specs.KeyGenMessage.{SignedKeyGenMsgOf, sameSigned}
 use Rattle.key_gen_message.proofs.MessageLaws.{signed-true, signed-refl}
-use Rattle.message_store.specs.MessageStore.{isOther, isRecent, pushed, messageAt, without, fromEra}
+use Rattle.message_store.specs.MessageStore.{isOther, isRecent, pushed, without, fromEra}
 use Rattle.message_store.proofs.StoreLaws.{push-room}
 
 -- 01, step 4: "Stored own-side messages equal to a committed one go": each that equals it in era, id, message and signature goes, and no other does
@@ -51,10 +52,8 @@ module _ (era : ℕ) where
     later-stays h = rw (le-leb era (x .era) h)
 
 -- 01: stored messages are handed out "by place, 0 first, in order of arrival": with as many before it as its place says
-pub by-place : (before behind : List SignedKeyGenMsgOf) (m : SignedKeyGenMsgOf) → messageAt (length before) (before ++ (m ∷ behind)) ≡ found m
-unfolding messageAt
-by-place [] behind m = refl
-by-place (x ∷ before) behind m = by-place before behind m
+pub by-place : (before behind : List SignedKeyGenMsgOf) (m : SignedKeyGenMsgOf) → atPlace (length before) (before ++ (m ∷ behind)) ≡ found m
+by-place = at-between
 
 -- 01: "room freed by commitment or a new era used again": where the store was full of messages one of which goes, the next that comes has a place
 module _ (z : Sizes) (before behind : List SignedKeyGenMsgOf) (m new : SignedKeyGenMsgOf) (held : length (before ++ (m ∷ behind)) ≤ z .store) where

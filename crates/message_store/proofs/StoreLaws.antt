@@ -1,17 +1,16 @@
 -- Laws of the message store as an array with a count.
 -- Assumes nothing.
-use Prim.Native.Nat.{ℕ, zero, suc, _≤_, _<_}
-use mathlib.Core.Path.{_≡_, refl}
-use mathlib.Core.List.{List, [], _∷_, _++_, map}
+use Prim.Native.Nat.{ℕ, _≤_, _<_}
+use mathlib.Core.Path.{_≡_}
+use mathlib.Core.List.{List, [], _∷_, _++_}
 use mathlib.Core.Bool.{true, false}
 use native.Mathlib.Omega.{arith}
-use lib.ListN.{length, take, getD}
+use lib.ListN.{length}
 use borrow.Author.Tests.{le-leb, lt-leb}
-use Rattle.lists.specs.Lists.{found, nothing}
 use Rattle.bincode.specs.Sizes.{Sizes}
 use Rattle.bincode.specs.Outcome.{done, refused}
 use Rattle.key_gen_message.specs.KeyGenMessage.{SignedKeyGenMsgOf}
-use Rattle.message_store.specs.MessageStore.{row12, pushed, messageAt}
+use Rattle.message_store.specs.MessageStore.{row12, pushed}
 use Rattle.message_store.specs.declared.PushOutcome.the-variants as push
 
 -- a message that is stored is not refused
@@ -38,19 +37,3 @@ module _ (z : Sizes) (ms : List SignedKeyGenMsgOf) where
   pub push-room : (m : SignedKeyGenMsgOf) → length ms < z .store → pushed z ms m ≡ done (ms ++ (m ∷ []))
   unfolding pushed
   push-room m h = rw (row12-not h)
-
--- what stands at a place
-module _ {A : Type 0} (f : A → SignedKeyGenMsgOf) where
-  pub at-held : (xs : List A) (count i : ℕ) (x : A) → i < length (take count xs) → messageAt i (map f (take count xs)) ≡ found (f (getD xs i x))
-  unfolding messageAt
-  at-held xs zero i x h = absurd (let y : ⊥ = omega arith in y)
-  at-held [] (suc count) i x h = absurd (let y : ⊥ = omega arith in y)
-  at-held (y ∷ xs) (suc count) zero x h = refl
-  at-held (y ∷ xs) (suc count) (suc i) x h = at-held xs count i x (omega arith)
-
--- past the last nothing stands
-pub at-past : (ms : List SignedKeyGenMsgOf) (i : ℕ) → length ms ≤ i → messageAt i ms ≡ nothing
-unfolding messageAt
-at-past [] i h = refl
-at-past (m ∷ ms) zero h = absurd (let y : ⊥ = omega arith in y)
-at-past (m ∷ ms) (suc i) h = at-past ms i (omega arith)

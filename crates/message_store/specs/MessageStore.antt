@@ -1,5 +1,5 @@
 -- 01: the message store, in order of arrival; row 12.
-use Prim.Native.Nat.{ℕ, zero, suc}
+use Prim.Native.Nat.{ℕ}
 use mathlib.Core.Path.{_≡_}
 use mathlib.Core.List.{List, [], _∷_, _++_, map}
 use mathlib.Core.Bool.{Bool, true, false, not, cond}
@@ -23,12 +23,6 @@ row12 z ms = leb (z .store) (length ms)
 -- the last to arrive is the last of the list
 unfoldable pub pushed : Sizes → List SignedKeyGenMsgOf → SignedKeyGenMsgOf → Outcome (List SignedKeyGenMsgOf)
 pushed z ms m = cond (row12 z ms) (refused 12) (done (ms ++ (m ∷ [])))
-
--- handed out by place, 0 first, none past the last
-unfoldable pub messageAt : ℕ → List SignedKeyGenMsgOf → Found SignedKeyGenMsgOf
-messageAt n [] = nothing
-messageAt zero (m ∷ ms) = found m
-messageAt (suc n) (m ∷ ms) = messageAt n ms
 
 -- step 4: stored messages equal to a committed one go
 abbrev pub isOther : SignedKeyGenMsgOf → SignedKeyGenMsgOf → Bool

@@ -2,9 +2,10 @@
 ghost use mathlib.Core.Path.{_≡_};
 ghost use Prim.Native.Nat.{_≤_};
 ghost use lib.ListN.{length};
+ghost use Rattle.lists.specs.Lists.{atPlace};
 ghost use Rattle.bincode.specs.Sizes.{base};
 ghost use Rattle.key_gen_message.specs.KeyGenMessage.{signedOf};
-ghost use Rattle.message_store.specs.MessageStore.{storeOf, noStore, pushed, pushedOf, PushRefusedKeeps, messageAt, saidStored, NoneStoredEmpty, without, fromEra};
+ghost use Rattle.message_store.specs.MessageStore.{storeOf, noStore, pushed, pushedOf, PushRefusedKeeps, saidStored, NoneStoredEmpty, without, fromEra};
 use key_gen_message::SignedKeyGenMsg;
 
 // Places from `count` on do not count.
@@ -82,7 +83,7 @@ impl MessageStore {
 
     // The message at a place, 0 first, in order of arrival.
     pub fn at(self, place: usize) -> StoredMessage
-        ensures { λ r. ⌜ (saidStored r ≡ messageAt place (storeOf self)) × NoneStoredEmpty r ⌝ }
+        ensures { λ r. ⌜ (saidStored r ≡ atPlace place (storeOf self)) × NoneStoredEmpty r ⌝ }
     {
         if place < self.len() {
             return StoredMessage {

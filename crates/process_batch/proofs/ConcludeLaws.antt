@@ -20,7 +20,6 @@ use Rattle.due.specs.declared.DueItem.{DueItem}
 use Rattle.params.specs.declared.Params.{Params}
 use Rattle.change.specs.Change.{ChangeOf, nodeChange, changeHeld, none, stateHeld, stateOf as progressOf}
 use Rattle.recipe.specs.Recipe.{NoRecipeEmpty}
-use Rattle.signed_votes.specs.SignedVotes.{votesOf}
 use Rattle.key_gen_message.specs.KeyGenMessage.{SignedKeyGenMsgOf}
 use Rattle.key_gen_state.specs.declared.KeyGenState.{KeyGenState}
 use Rattle.key_gen_state.specs.KeyGenState as running
@@ -30,7 +29,7 @@ use Rattle.vote_counter.proofs.FewLaws.{few-votes}
 use Rattle.dynamic_honey_badger.specs.State.{StateOf, Stamp}
 use Rattle.steps.specs.Steps.{WorkOf, oweTo}
 use Rattle.commit.specs.declared.Committed.{Committed}
-use Rattle.commit.specs.Tally.{entriesOf, VotesHeld}
+use Rattle.commit.specs.Tally.{entriesOf, begunWith, VotesHeld}
 use Rattle.commit.specs.Put.{putIn}
 use Rattle.commit.proofs.TallyLaws.{tallied-length}
 use Rattle.commit.proofs.StayedLaws.{put-nothing, put-stayed}
@@ -139,8 +138,8 @@ module _ (p : Params) (c : VoteCounter) (k : KeyGenState) (st : List SignedKeyGe
 module _ (s : List ℕ) (p : Params) (c after : VoteCounter) (k : KeyGenState) (epoch : ℕ) (m : Committed) (e : Elected)
     (put : counterOf after ≡ foldl (putIn base s) (counterOf c) (entriesOf (m .tally))) (elected : electedOf e ≡ computeWinner (counterOf after)) where
   -- the state of the work is what the parts make
-  whole : (w : WorkOf) → VotesHeld s (votesOf (c .committed)) w (c .era) (nodesOf (c .«pub_keys»)) (m .tally)
-      → w .state .counter ≡ withCommitted (counterOf c) (w .state .counter .committed) → w .state .params ≡ p → w .state .key-gen ≡ running.stateOf (m .state)
+  whole : (w : WorkOf) → VotesHeld s (begunWith (counterOf c)) w (c .era) (nodesOf (c .«pub_keys»)) (m .tally)
+      → w .state .counter ≡ withCommitted (counterOf c) (w .state .counter .committed) (w .state .counter .board) → w .state .params ≡ p → w .state .key-gen ≡ running.stateOf (m .state)
       → partsOf p after (m .state) (w .state .store) (w .state .last) ≡ w .state
   whole w held counter params key =
       let stayed : counterOf after ≡ w .state .counter = put ∙ put-stayed s (counterOf c) w (m .tally) held ∙ sym counter in

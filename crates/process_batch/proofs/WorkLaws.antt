@@ -16,6 +16,7 @@ use Rattle.dynamic_honey_badger.specs.State.{eraOf, nodesIn}
 use Rattle.steps.specs.Steps.{committed}
 use Rattle.commit.specs.declared.Committed.{Committed}
 use Rattle.commit.specs.declared.tally.Tally.{Tally}
+use Rattle.commit.specs.Tally.{begunWith}
 use Rattle.commit.specs.Batch.{Lists, Holds, BatchCommitted}
 use Rattle.process_output.specs.declared.Opening.{Opening}
 use Rattle.process_output.specs.declared.Opening.the-variants as opening
@@ -74,8 +75,8 @@ module _ (b : BatchCall) (era : ℕ) (o : Opened) (h : OpenedAs o (opened base e
               behind = x .next;
               read = x .read;
               placed = by-state .1 ∙ (λ j. placesOf (was j) (x .read j));
-              holds = subst (λ (y : ℕ). Holds (b .bytes) y (nodesIn st) (b .verdicts) (st .counter .committed) l w d l′) (sym e)
-                  (subst (λ (y : List Node). Holds (b .bytes) era y (b .verdicts) (st .counter .committed) l w d l′) (sym m) (c st (x .cs) e m g v r (x .kept)));
+              holds = subst (λ (y : ℕ). Holds (b .bytes) y (nodesIn st) (b .verdicts) (begunWith (st .counter)) l w d l′) (sym e)
+                  (subst (λ (y : List Node). Holds (b .bytes) era y (b .verdicts) (begunWith (st .counter)) l w d l′) (sym m) (c st (x .cs) e m g v r (x .kept)));
               answer = x .comes;
             }
 

@@ -13,7 +13,6 @@ use Rattle.fault_log.specs.declared.Fault.{Fault}
 use Rattle.due.specs.declared.DueItem.{DueItem}
 use Rattle.recipe.specs.Recipe.{NoRecipeEmpty}
 use Rattle.params.specs.declared.Params.{Params}
-use Rattle.signed_votes.specs.SignedVotes.{votesOf}
 use Rattle.key_gen_message.specs.KeyGenMessage.{SignedKeyGenMsgOf}
 use Rattle.key_gen_state.specs.declared.KeyGenState.{KeyGenState}
 use Rattle.key_gen_state.specs.KeyGenState as running
@@ -26,7 +25,7 @@ use Rattle.dynamic_honey_badger.specs.State.{StateOf, Stamp, eraOf, nodesIn}
 use Rattle.steps.specs.Steps.{WorkOf, committed}
 use Rattle.commit.specs.declared.Committed.{Committed}
 use Rattle.commit.specs.declared.tally.Tally.{Tally}
-use Rattle.commit.specs.Tally.{entriesOf, keptEntry, VotesHeld}
+use Rattle.commit.specs.Tally.{entriesOf, keptEntry, begunWith, VotesHeld}
 use Rattle.commit.specs.Batch.{Lists, Holds}
 use Rattle.decision.specs.Decision.{partsOf, emptyWins}
 use Rattle.process_output.specs.declared.Opening.{Opening}
@@ -45,7 +44,7 @@ pub record Working (st : StateOf) (b : BatchCall) (epoch : ℕ) (w : Worked) (l 
   pub behind : ℕ
   pub read : readBatch base (b .bytes) ≡ value contribs behind
   pub placed : contribsIn (w .index) ≡ placedFrom 8 contribs
-  pub holds : Holds (b .bytes) (eraOf st) (nodesIn st) (b .verdicts) (st .counter .committed) l (committed base st (b .verdicts) contribs) (w .committed) l′
+  pub holds : Holds (b .bytes) (eraOf st) (nodesIn st) (b .verdicts) (begunWith (st .counter)) l (committed base st (b .verdicts) contribs) (w .committed) l′
   pub answer : processed base st b
       ≡ cond (emptyWins (committed base st (b .verdicts) contribs .state)) (denied st 7) (finished base st epoch (committed base st (b .verdicts) contribs))
 
@@ -88,7 +87,7 @@ pub record RanAs (r : Settled) (p : Params) (c : VoteCounter) (k : KeyGenState) 
 -- steps 6 to 8 and row 7, for every work w that the loop over contributions may have held
 abbrev pub Concluded : List ℕ → Params → VoteCounter → KeyGenState → ℕ → Committed → Settled → Type 0
 Concluded bytes p c k epoch d r =
-    (w : WorkOf) (st : List SignedKeyGenMsgOf) (l : Found Stamp) → VotesHeld bytes (votesOf (c .committed)) w (c .era) (nodesOf (c .«pub_keys»)) (d .tally)
-    → w .state .counter ≡ withCommitted (counterOf c) (w .state .counter .committed) → w .state .params ≡ p → w .state .key-gen ≡ running.stateOf (d .state)
+    (w : WorkOf) (st : List SignedKeyGenMsgOf) (l : Found Stamp) → VotesHeld bytes (begunWith (counterOf c)) w (c .era) (nodesOf (c .«pub_keys»)) (d .tally)
+    → w .state .counter ≡ withCommitted (counterOf c) (w .state .counter .committed) (w .state .counter .board) → w .state .params ≡ p → w .state .key-gen ≡ running.stateOf (d .state)
     → length (w .faults) ≡ d .faults → length (w .due) ≡ d .due
     → RanAs r p c k st (w .state .store) (w .faults) (w .due) (cond (emptyWins (w .state)) (denied (partsOf p c k st l) 7) (finished base (partsOf p c k st l) epoch w))

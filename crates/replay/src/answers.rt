@@ -1,10 +1,12 @@
-// The values of answers as text: faults, due items, recipe, votes, parts, and encoded values as bytes.
+// The values of answers as text: faults, due items, recipe, votes, rows of the board, parts, and encoded values as bytes.
 use crate::fields::part;
 use crate::text::put;
 use crate::text::put_between;
 use crate::text::put_first;
 use crate::text::put_named;
 use crate::text::put_number;
+use board::Board;
+use board::Standing;
 use change::Change;
 use change::ChangeState;
 use key_gen::KeyGen;
@@ -15,6 +17,7 @@ use recipe::Recipe;
 use recipe::RecipeKind;
 use recipe::Share;
 use signed_votes::SignedVotes;
+use vote_counter::VoteCounter;
 use votes::SignedVote;
 
 // Where the name of a kind of fault starts among the names, by the kind's number; past the last kind, behind them all.
@@ -181,6 +184,33 @@ pub(crate) fn put_votes(out: &mut [u8], at: usize, vs: SignedVotes) -> usize {
         let x = vs.votes[i];
         m = put_between(out, m, 0 < i, b",");
         m = put_vote(out, m, x);
+        i += 1;
+    }
+    m
+}
+
+// A row of the board as `COUNT:CHANGE`.
+fn put_row(out: &mut [u8], at: usize, row: Standing) -> usize {
+    let change = row.change;
+    let a = put_number(out, at, row.count as u64);
+    put_change(out, a, b":", change)
+}
+
+// The board's rows in order, as the counter hands them out; `-` for none.
+pub(crate) fn put_board(out: &mut [u8], at: usize, counter: VoteCounter) -> usize {
+    let first = counter.board_row(0);
+    if !first.found {
+        return put(out, at, b"-");
+    }
+    let mut m = at;
+    let mut i: usize = 0;
+    while i < Board::LIMIT {
+        let row = counter.board_row(i);
+        if !row.found {
+            return m;
+        }
+        m = put_between(out, m, 0 < i, b",");
+        m = put_row(out, m, row);
         i += 1;
     }
     m

@@ -60,6 +60,7 @@ pub enum Question {
     Next(u64),
     State,
     Last,
+    Board,
     NoEngine,
     Schedule(u64, usize),
     User(u32, usize),
@@ -92,7 +93,7 @@ pub struct Form {
 
 fn no_form() -> Form {
     Form {
-        number: 17,
+        number: 18,
         start: 0,
         end: 0,
     }
@@ -103,7 +104,7 @@ fn form_of(forms: &[u8], word: &[u8]) -> Form {
     let n = forms.len();
     let mut at: usize = 0;
     let mut k: u64 = 0;
-    while k < 17 {
+    while k < 18 {
         let e = find(forms, at, b' ');
         if e == n {
             return no_form();
@@ -196,6 +197,7 @@ fn question_of(k: u64, a: u64, b: u64) -> Question {
         14 => Question::User(id_of(a), b as usize),
         15 => Question::State,
         16 => Question::Last,
+        17 => Question::Board,
         _ => Question::Bad,
     }
 }
@@ -225,7 +227,7 @@ fn call_of(k: u64, a: u64, b: u64, c: u64, d: u64, e: u64, f: u64) -> Call {
 // The words of calls, each with the kinds of its fields: an id, a number, bytes, places, a flag.
 fn parse_fields(line: &[u8], bytes: &mut [u8]) -> Call {
     let forms = b"batch nnbbpp message ib due b vote b add in remove i new innbb join inbp \
-        plan np stored n pending n propose fn next n schedule nb user ib state  last ";
+        plan np stored n pending n propose fn next n schedule nb user ib state  last  board ";
     let f = split(line);
     let form = form_of(forms, field(line, f, 0));
     let letters = part(forms, form.start, form.end);

@@ -2,7 +2,7 @@
 ghost use mathlib.Core.Path.{_≡_};
 ghost use Prim.Native.Nat.{_≤_};
 ghost use lib.ListN.{length};
-ghost use Rattle.lists.specs.Lists.{lookup, below, hasKey, insertWithin, mapFound};
+ghost use Rattle.lists.specs.Lists.{lookup, below, hasKey, insertWithin, takesPlace, mapFound};
 ghost use Rattle.bincode.specs.Sizes.{base};
 ghost use Rattle.votes.specs.Votes.{signedOf};
 ghost use Rattle.signed_votes.specs.SignedVotes.{held, votesOf, noVotes, voterOf, numOf, voterIn, saidNum};
@@ -87,6 +87,17 @@ impl SignedVotes {
             at: i,
             taken: false,
         }
+    }
+
+    // Whether a voter's vote gets a place: the voter has one, or there is room.
+    pub fn takes(self, voter: u32) -> bool
+        ensures { λ r. ⌜ r ≡ takesPlace voterOf (base .nodes) voter (votesOf self) ⌝ }
+    {
+        let p = self.place(voter);
+        if p.taken {
+            return true;
+        }
+        self.len() < SignedVotes::LIMIT
     }
 
     // The votes with one put in: in place of its voter's, or where its voter belongs. A full array has no place for another voter.

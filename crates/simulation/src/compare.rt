@@ -1,6 +1,8 @@
 // In what two replicas differ first, in what they tell and in what they hold of what is shared.
 use crate::host::Faults;
 use batch::Batch;
+use board::Board;
+use board::Standing;
 use change::ChangeState;
 use dynamic_honey_badger::DynamicHoneyBadger;
 use fault_log::AckFault;
@@ -24,6 +26,7 @@ pub enum Difference {
     Era,
     Roster,
     Votes,
+    Board,
     Params,
     KeyGeneration,
 }
@@ -95,6 +98,33 @@ fn same_votes(a: SignedVotes, b: SignedVotes) -> bool {
     true
 }
 
+// Rows that are handed out; where there is none, both must say so.
+fn same_row(a: Standing, b: Standing) -> bool {
+    if a.found != b.found {
+        return false;
+    }
+    if a.count != b.count {
+        return false;
+    }
+    let change = a.change;
+    let other_change = b.change;
+    change.same(other_change)
+}
+
+// Row by row, as the counters hand them out.
+fn same_board(a: VoteCounter, b: VoteCounter) -> bool {
+    let mut i: usize = 0;
+    while i < Board::LIMIT {
+        let x = a.board_row(i);
+        let y = b.board_row(i);
+        if !same_row(x, y) {
+            return false;
+        }
+        i += 1;
+    }
+    true
+}
+
 // Whether the same nodes have acknowledged.
 fn same_acks(a: Proposal, b: Proposal) -> bool {
     let mut i: usize = 0;
@@ -149,7 +179,7 @@ fn same_key_gen(a: KeyGenState, b: KeyGenState) -> bool {
     same_proposals(x, y)
 }
 
-// Era, map and committed votes.
+// Era, map, committed votes and board.
 fn counter_difference(a: VoteCounter, b: VoteCounter) -> Difference {
     if a.era != b.era {
         return Difference::Era;
@@ -164,10 +194,13 @@ fn counter_difference(a: VoteCounter, b: VoteCounter) -> Difference {
     if !same_votes(votes, other_votes) {
         return Difference::Votes;
     }
+    if !same_board(a, b) {
+        return Difference::Board;
+    }
     Difference::Nothing
 }
 
-// Era, map, committed votes, parameters and key generation.
+// Era, map, committed votes, board, parameters and key generation.
 pub(crate) fn shared_difference(a: DynamicHoneyBadger, b: DynamicHoneyBadger) -> Difference {
     let counter = a.vote_counter;
     let other_counter = b.vote_counter;

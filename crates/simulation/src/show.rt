@@ -93,6 +93,7 @@ fn what(going: bool, d: Difference) -> bool {
         Difference::Era => write(going, b"era"),
         Difference::Roster => write(going, b"roster"),
         Difference::Votes => write(going, b"votes"),
+        Difference::Board => write(going, b"board"),
         Difference::Params => write(going, b"params"),
         Difference::KeyGeneration => write(going, b"key generation"),
     }

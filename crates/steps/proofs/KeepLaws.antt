@@ -66,9 +66,9 @@ module _ (z : Sizes) (proposer : ℕ) where
   messages-store [] w = refl
   messages-store (m ∷ ms) w = messages-store ms (committedMessage z proposer w m) ∙ ap (λ (s : StateOf). foldl less (s .store) ms) (message-state w m .1)
 
--- votes change committed votes and faults alone
+-- votes change committed votes, the board and faults alone
 pub record VotesKept (w u : WorkOf) : Type 0 where
-  pub by-state : u .state ≡ withCounter (w .state) (withCommitted (w .state .counter) (u .state .counter .committed))
+  pub by-state : u .state ≡ withCounter (w .state) (withCommitted (w .state .counter) (u .state .counter .committed) (u .state .counter .board))
   pub by-due : u .due ≡ w .due
   pub by-verdicts : u .verdicts ≡ w .verdicts
 
@@ -85,7 +85,7 @@ module _ (z : Sizes) (proposer : ℕ) where
   then : (w u x : WorkOf) → VotesKept w u → VotesKept u x → VotesKept w x
   then w u x a b =
       record {
-        by-state = b .by-state ∙ ap (λ (s : StateOf). withCounter s (withCommitted (s .counter) (x .state .counter .committed))) (a .by-state);
+        by-state = b .by-state ∙ ap (λ (s : StateOf). withCounter s (withCommitted (s .counter) (x .state .counter .committed) (x .state .counter .board))) (a .by-state);
         by-due = b .by-due ∙ a .by-due;
         by-verdicts = b .by-verdicts ∙ a .by-verdicts;
       }
@@ -99,7 +99,7 @@ module _ (z : Sizes) where
   abbrev voted : WorkOf → ContribOf → WorkOf
   voted w c = foldl (committedVote z (c .id)) w (c .votes)
 
-  contrib-counter : (w : WorkOf) (c : ContribOf) → committedContrib z w c .state .counter ≡ withCommitted (w .state .counter) (voted w c .state .counter .committed)
+  contrib-counter : (w : WorkOf) (c : ContribOf) → committedContrib z w c .state .counter ≡ withCommitted (w .state .counter) (voted w c .state .counter .committed) (voted w c .state .counter .board)
   unfolding committedContrib
   contrib-counter w c = messages-counter z (c .id) (c .messages) (voted w c) ∙ ap (λ (s : StateOf). s .counter) (votes-kept z (c .id) (c .votes) w .by-state)
 
@@ -112,14 +112,14 @@ module _ (z : Sizes) where
   contrib-store w c =
       messages-store z (c .id) (c .messages) (voted w c) ∙ ap (λ (s : StateOf). foldl less (s .store) (c .messages)) (votes-kept z (c .id) (c .votes) w .by-state)
 
-  -- of the counter committed votes alone change
+  -- of the counter committed votes and the board alone change
   pub batch-counter : (cs : List ContribOf) (w : WorkOf)
-      → foldl (committedContrib z) w cs .state .counter ≡ withCommitted (w .state .counter) (foldl (committedContrib z) w cs .state .counter .committed)
+      → foldl (committedContrib z) w cs .state .counter ≡ withCommitted (w .state .counter) (foldl (committedContrib z) w cs .state .counter .committed) (foldl (committedContrib z) w cs .state .counter .board)
   batch-counter [] w = refl
   batch-counter (c ∷ cs) w =
       let u = committedContrib z w c in
       let x = foldl (committedContrib z) u cs in
-      batch-counter cs u ∙ ap (λ (k : CounterOf). withCommitted k (x .state .counter .committed)) (contrib-counter w c)
+      batch-counter cs u ∙ ap (λ (k : CounterOf). withCommitted k (x .state .counter .committed) (x .state .counter .board)) (contrib-counter w c)
 
   pub batch-params : (cs : List ContribOf) (w : WorkOf) → foldl (committedContrib z) w cs .state .params ≡ w .state .params
   batch-params [] w = refl

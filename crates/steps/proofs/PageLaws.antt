@@ -3,11 +3,12 @@
 use Prim.Native.Nat.{ℕ, _<_}
 use mathlib.Core.Path.{_≡_}
 use mathlib.Core.List.{List, [], _∷_, _++_}
+use mathlib.Core.Bool.{cond}
 use native.Mathlib.Omega.{arith}
 use lib.ListN.{length, take, length-append}
 use lib.Seq.{take-all}
 use borrow.Author.Tests.{eq-eqb, ne-eqb}
-use Rattle.lists.specs.Lists.{Found, found, nothing, insertWithin}
+use Rattle.lists.specs.Lists.{Found, found, nothing, insertWithin, takesPlace}
 use Rattle.bincode.specs.Sizes.{Sizes}
 use Rattle.fault_log.specs.declared.FaultKind.{FaultKind}
 use Rattle.fault_log.specs.declared.FaultKind.the-variants.{InvalidCommittedVote, InvalidKeyGenMessageSignature, InvalidKeyGenMessageEra, UnexpectedKeyGenPart, UnexpectedKeyGenAck}
@@ -15,6 +16,7 @@ use Rattle.fault_log.specs.declared.Fault.{Fault}
 use Rattle.network_info.specs.NetworkInfo.{nodeIndex, keyOf}
 use Rattle.due.specs.declared.DueKind.the-variants.{Ack}
 use Rattle.votes.specs.Votes.{SignedVoteOf}
+use Rattle.board.specs.Board.{workedOut}
 use Rattle.vote_counter.proofs.PageLaws.{AtOrBelow, Newer, committed-old, committed-era, committed-signature, committed-replaces}
 use Rattle.sync_key_gen.specs.SyncKeyGen.{PartOf, AckOf}
 use Rattle.key_gen.specs.KeyGen as key-gen
@@ -54,7 +56,7 @@ module _ (z : Sizes) (proposer : ℕ) (w : WorkOf) (v : SignedVoteOf) where
       unfolding committedVote
       unsigned-vote e h = rw (committed-signature z (w .state .counter) v new e h, more (z .faults) (w .faults) (faultOf proposer InvalidCommittedVote) room)
 
-    -- "Otherwise it replaces the stored one"
+    -- "Otherwise it replaces the stored one"; where it took a place, the board is worked out from the votes then (02, CR 3)
     pub vote-replaces : v .vote .era ≡ w .state .counter .era → keyOf (w .state .counter .nodes) (v .voter) ≡ found (v .sig)
         → committedVote z proposer w v
         ≡ record {
@@ -66,6 +68,9 @@ module _ (z : Sizes) (proposer : ℕ) (w : WorkOf) (v : SignedVoteOf) where
               era = w .state .counter .era;
               pending = w .state .counter .pending;
               committed = insertWithin (λ (x : SignedVoteOf). x .voter) (z .nodes) v (w .state .counter .committed);
+              board = cond (takesPlace (λ (x : SignedVoteOf). x .voter) (z .nodes) (v .voter) (w .state .counter .committed))
+                  (workedOut (insertWithin (λ (x : SignedVoteOf). x .voter) (z .nodes) v (w .state .counter .committed)))
+                  (w .state .counter .board);
             };
             params = w .state .params;
             key-gen = w .state .key-gen;

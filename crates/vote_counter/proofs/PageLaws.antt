@@ -3,20 +3,21 @@
 use Prim.Native.Nat.{ℕ, _+_, _≤_, _<_}
 use mathlib.Core.Path.{_≡_, refl, ap}
 use mathlib.Core.List.{List, [], _∷_, _++_}
-use mathlib.Core.Bool.{true, false}
+use mathlib.Core.Bool.{true, false, cond}
 use native.Mathlib.Omega.{arith}
 use lib.ListN.{length}
 use borrow.Author.Tests.{le-leb, lt-leb, eq-eqb, ne-eqb}
-use Rattle.lists.specs.Lists.{Found, found, nothing, mapFound, lookup, insertWithin, filter}
+use Rattle.lists.proofs.PlaceLaws.{at-between}
+use Rattle.lists.specs.Lists.{Found, found, nothing, atPlace, mapFound, lookup, insertWithin, takesPlace, filter}
 use Rattle.bincode.specs.Sizes.{Sizes}
 use Rattle.bincode.specs.Outcome.{done, refused}
 use Rattle.network_info.specs.NetworkInfo.{keyOf}
 use Rattle.change.specs.Change.{ChangeOf}
 use Rattle.votes.specs.Votes.{SignedVoteOf}
 use Rattle.signed_votes.specs.SignedVotes.{numOf}
+use Rattle.board.specs.Board.{workedOut}
 use Rattle.fault_log.specs.declared.FaultKind.the-variants.{InvalidVoteSignature, InvalidCommittedVote}
-use Rattle.vote_counter.specs.VoteCounter.{CounterOf, atOrBelow, obsolete, isKey, validVote, stored, nothing-new, fault, committedEffect, pendingEffect, addPending, addCommitted, signVoteFor, pendingVotes}
-use Rattle.vote_counter.specs.Answers.{pendingAt}
+use Rattle.vote_counter.specs.VoteCounter.{CounterOf, atOrBelow, obsolete, isKey, validVote, stored, nothing-new, fault, voteEffect, pendingEffect, addPending, addCommitted, signVoteFor, pendingVotes}
 
 -- a voter's vote among some
 abbrev voteOf : List SignedVoteOf → ℕ → Found SignedVoteOf
@@ -46,11 +47,11 @@ newer-not vs v h = go (voteOf vs (v .voter)) h
     go nothing h = refl
 
 -- signed under the voter's key of the current map, and not so
-signed-valid : (c : CounterOf) (v : SignedVoteOf) → keyOf (c .nodes) (v .voter) ≡ found (v .sig) → validVote c v ≡ true
+signed-valid : (c : CounterOf) (v : SignedVoteOf) → keyOf (c .nodes) (v .voter) ≡ found (v .sig) → validVote (c .nodes) v ≡ true
 unfolding validVote
 signed-valid c v e = rw e (eq-eqb (v .sig) (v .sig) refl)
 
-unsigned-not : (c : CounterOf) (v : SignedVoteOf) → (keyOf (c .nodes) (v .voter) ≡ found (v .sig) → ⊥) → validVote c v ≡ false
+unsigned-not : (c : CounterOf) (v : SignedVoteOf) → (keyOf (c .nodes) (v .voter) ≡ found (v .sig) → ⊥) → validVote (c .nodes) v ≡ false
 unfolding validVote
 unsigned-not c v h = go (keyOf (c .nodes) (v .voter)) h
   where
@@ -61,25 +62,25 @@ unsigned-not c v h = go (keyOf (c .nodes) (v .voter)) h
 module _ (z : Sizes) (c : CounterOf) (v : SignedVoteOf) where
   -- 01, step 3: "A vote numbered at or below the voter's stored one changes nothing and makes no fault", whatever its era and signature
   pub committed-old : AtOrBelow (c .committed) v → addCommitted z c v ≡ record { counter = c; effect = nothing-new }
-  unfolding addCommitted committedEffect
+  unfolding addCommitted voteEffect
   committed-old h = rw (old-obsolete (c .committed) v h)
 
   module _ (new : Newer (c .committed) v) where
     -- "Otherwise a wrong era or signature is `InvalidCommittedVote`"
     pub committed-era : (v .vote .era ≡ c .era → ⊥) → addCommitted z c v ≡ record { counter = c; effect = fault InvalidCommittedVote }
-    unfolding addCommitted committedEffect
+    unfolding addCommitted voteEffect
     committed-era h = rw (newer-not (c .committed) v new, ne-eqb _ _ h)
 
     module _ (now : v .vote .era ≡ c .era) where
       pub committed-signature : (keyOf (c .nodes) (v .voter) ≡ found (v .sig) → ⊥) → addCommitted z c v ≡ record { counter = c; effect = fault InvalidCommittedVote }
-      unfolding addCommitted committedEffect
+      unfolding addCommitted voteEffect
       committed-signature h = rw (newer-not (c .committed) v new, eq-eqb _ _ now, unsigned-not c v h)
 
       -- "Otherwise it replaces the stored one": among the committed votes alone
       pub committed-replaces : keyOf (c .nodes) (v .voter) ≡ found (v .sig)
           → addCommitted z c v
-          ≡ record { counter = record { our-id = c .our-id; our-key = c .our-key; nodes = c .nodes; era = c .era; pending = c .pending; committed = replaced z v (c .committed) }; effect = stored }
-      unfolding addCommitted committedEffect
+          ≡ record { counter = record { our-id = c .our-id; our-key = c .our-key; nodes = c .nodes; era = c .era; pending = c .pending; committed = replaced z v (c .committed); board = cond (takesPlace (λ (x : SignedVoteOf). x .voter) (z .nodes) (v .voter) (c .committed)) (workedOut (replaced z v (c .committed))) (c .board) }; effect = stored }
+      unfolding addCommitted voteEffect
       committed-replaces e = rw (newer-not (c .committed) v new, eq-eqb _ _ now, signed-valid c v e)
 
   -- a received vote: of another era it is nothing (of a later one the fault is the message's)
@@ -102,7 +103,7 @@ module _ (z : Sizes) (c : CounterOf) (v : SignedVoteOf) where
       -- else it replaces the pending one; what is committed stays
       pub received-replaces : keyOf (c .nodes) (v .voter) ≡ found (v .sig)
           → addPending z c v
-          ≡ record { counter = record { our-id = c .our-id; our-key = c .our-key; nodes = c .nodes; era = c .era; pending = replaced z v (c .pending); committed = c .committed }; effect = stored }
+          ≡ record { counter = record { our-id = c .our-id; our-key = c .our-key; nodes = c .nodes; era = c .era; pending = replaced z v (c .pending); committed = c .committed; board = c .board }; effect = stored }
       unfolding addPending pendingEffect
       received-replaces e = rw (eq-eqb _ _ now, newer-not (c .pending) v new, signed-valid c v e)
 
@@ -112,7 +113,7 @@ module _ (z : Sizes) (c : CounterOf) (change : ChangeOf) where
   own num = record { vote = record { change = change; era = c .era; num = num }; voter = c .our-id; sig = c .our-key }
 
   abbrev cast : ℕ → CounterOf
-  cast num = record { our-id = c .our-id; our-key = c .our-key; nodes = c .nodes; era = c .era; pending = replaced z (own num) (c .pending); committed = c .committed }
+  cast num = record { our-id = c .our-id; our-key = c .our-key; nodes = c .nodes; era = c .era; pending = replaced z (own num) (c .pending); committed = c .committed; board = c .board }
 
   -- its number is 0 at first
   pub own-first : voteOf (c .pending) (c .our-id) ≡ nothing → signVoteFor z c change ≡ record { counter = cast 0; answer = done (own 0) }
@@ -133,7 +134,7 @@ module _ (z : Sizes) (c : CounterOf) (change : ChangeOf) where
 -- pending votes handed out: those that are newer than their voter's committed one, in their order
 module _ (c : CounterOf) where
   abbrev holding : List SignedVoteOf → CounterOf
-  holding vs = record { our-id = c .our-id; our-key = c .our-key; nodes = c .nodes; era = c .era; pending = vs; committed = c .committed }
+  holding vs = record { our-id = c .our-id; our-key = c .our-key; nodes = c .nodes; era = c .era; pending = vs; committed = c .committed; board = c .board }
 
   pub handed-none : pendingVotes (holding []) ≡ []
   unfolding pendingVotes filter
@@ -149,7 +150,5 @@ module _ (c : CounterOf) where
     handed-newer h = rw (newer-not (c .committed) v h)
 
 -- by place, 0 first: with as many before it as its place says; none past the last
-pub vote-by-place : (before behind : List SignedVoteOf) (v : SignedVoteOf) → pendingAt (length before) (before ++ (v ∷ behind)) ≡ found v
-unfolding pendingAt
-vote-by-place [] behind v = refl
-vote-by-place (x ∷ before) behind v = vote-by-place before behind v
+pub vote-by-place : (before behind : List SignedVoteOf) (v : SignedVoteOf) → atPlace (length before) (before ++ (v ∷ behind)) ≡ found v
+vote-by-place = at-between

@@ -1,39 +1,21 @@
 -- Turns of the two loops that look for the winner: voters by ascending place, and for each the choices up to its own.
 -- Assumes nothing.
-use Prim.Native.Nat.{ℕ, _+_, _-_, _≤_, _<_}
+use Prim.Native.Nat.{ℕ, _+_, _≤_, _<_}
 use mathlib.Core.Path.{_≡_, _∙_}
-use mathlib.Core.List.{List, [], _∷_}
-use mathlib.Core.Bool.{Bool, true, false, cond}
+use mathlib.Core.List.{List}
+use mathlib.Core.Bool.{Bool, cond}
 use native.Mathlib.Omega.{arith}
 use native.Mathlib.Numerals.{add-one}
 use lib.Dec.{ltb}
 use lib.ListN.{length, take, drop, getD}
-use lib.Seq.{length-take-le, take-suc, drop-cons, take-add}
+use lib.Seq.{length-take-le, take-suc, drop-cons}
 use borrow.Author.Tests.{lt-ltb, le-ltb}
 use Rattle.lists.specs.Lists.{found, nothing}
 use Rattle.lists.proofs.ListLaws.{rest-none}
 use Rattle.winner.specs.Winner.{support, placeAfter}
-use Rattle.winner.proofs.WinnerLaws.{support-append}
+use Rattle.winner.proofs.SupportTurns.{count-further}
 
 module _ {A : Type 0} (eq : A → A → Bool) (xs : List A) where
-  -- one more choice is counted
-  module _ (x z : A) (j : ℕ) (l : j < length xs) where
-    one-more : support eq x (take (j + 1) xs) ≡ support eq x (take j xs) + cond (eq (getD xs j z) x) 1 0
-    unfolding support
-    one-more = rw (add-one, take-suc xs j z l, support-append eq x (take j xs) (getD xs j z ∷ [])) (omega arith)
-
-    pub count-yes : eq (getD xs j z) x ≡ true → support eq x (take (j + 1) xs) ≡ support eq x (take j xs) + 1
-    count-yes e = rw e at one-more
-
-    pub count-no : eq (getD xs j z) x ≡ false → support eq x (take (j + 1) xs) ≡ support eq x (take j xs)
-    count-no e = omega (arith, rw e at one-more)
-
-  -- counting further finds no fewer
-  count-further : (x : A) (j k : ℕ) → j ≤ k → support eq x (take j xs) ≤ support eq x (take k xs)
-  count-further x j k l =
-      let e : k ≡ j + (k - j) = omega arith in
-      rw (e, take-add j (k - j) xs, support-append eq x (take j xs) (take (k - j) (drop j xs))) (omega arith)
-
   -- the voter at place i, whose choice is x
   module _ (f i : ℕ) where
     module _ (x z : A) (e : x ≡ getD xs i z) (l : i < length xs) where
@@ -45,7 +27,7 @@ module _ {A : Type 0} (eq : A → A → Bool) (xs : List A) where
       -- it passes f, maybe before all up to its own are counted
       pub voter-wins : (j : ℕ) → j ≤ i → f < support eq x (take (j + 1) xs) → placeAfter eq f (take i xs) (drop i xs) ≡ found i
       voter-wins j h k =
-          let m = count-further x (j + 1) (i + 1) (omega arith) in
+          let m = count-further eq xs x (j + 1) (i + 1) (omega arith) in
           one-voter ∙ rw (lt-ltb f (support eq x (take (i + 1) xs)) (omega arith))
 
       -- it does not pass f

@@ -1,7 +1,7 @@
 -- What the counter's answers say.
-use Prim.Native.Nat.{ℕ, zero, suc}
+use Prim.Native.Nat.{ℕ}
 use mathlib.Core.Path.{_≡_}
-use mathlib.Core.List.{List, [], _∷_}
+use mathlib.Core.List.{List}
 use mathlib.Core.Bool.{Bool, true, false}
 use lib.ListN.{getD}
 use Rattle.lists.specs.Lists.{Found, found, nothing}
@@ -9,11 +9,13 @@ use Rattle.bincode.specs.Outcome.{Outcome, done, refused}
 use Rattle.change.specs.Change.{ChangeOf}
 use Rattle.votes.specs.declared.SignedVote.{SignedVote}
 use Rattle.votes.specs.Votes.{SignedVoteOf, signedOf, signedHeld, noSigned}
-use Rattle.vote_counter.specs.VoteCounter.{VoteEffect, stored, nothing-new, fault, Added, Signed, counterOf}
+use Rattle.signed_votes.specs.SignedVotes.{votesOf}
+use Rattle.vote_counter.specs.VoteCounter.{VoteEffect, stored, nothing-new, fault, Added, CommittedOf, Signed, counterOf}
 use Rattle.vote_counter.specs.declared.VoteCounter.{VoteCounter}
 use Rattle.vote_counter.specs.declared.VoteOutcome.{VoteOutcome}
 use Rattle.vote_counter.specs.declared.VoteOutcome.the-variants as vote
 use Rattle.vote_counter.specs.declared.VoteAdded.{VoteAdded}
+use Rattle.vote_counter.specs.declared.VoteCommitted.{VoteCommitted}
 use Rattle.vote_counter.specs.declared.SignOutcome.{SignOutcome}
 use Rattle.vote_counter.specs.declared.SignOutcome.the-variants as sign
 use Rattle.vote_counter.specs.declared.VoteSigned.{VoteSigned}
@@ -29,6 +31,10 @@ saidOutcome (vote.Faulty k) = fault k
 abbrev pub addedOf : VoteAdded → Added
 addedOf r = record { counter = counterOf (r .counter); effect = saidOutcome (r .outcome) }
 
+-- what a vote left of the committed votes
+abbrev pub committedOf : VoteCommitted → CommittedOf
+committedOf r = record { votes = votesOf (r .votes); taken = r .taken; effect = saidOutcome (r .outcome) }
+
 abbrev pub saidSign : SignOutcome → SignedVote → Outcome SignedVoteOf
 saidSign sign.Signed v = done (signedOf v)
 saidSign (sign.Refused n) v = refused n
@@ -42,12 +48,6 @@ notSigned c n = record { counter = c; outcome = sign.Refused n; vote = signedHel
 
 abbrev pub SignRefusedKeeps : VoteSigned → VoteCounter → Type 0
 SignRefusedKeeps r c = (n : ℕ) → r .outcome ≡ sign.Refused n → r ≡ notSigned c n
-
--- votes are handed out by place, 0 first, none past the last
-unfoldable pub pendingAt : ℕ → List SignedVoteOf → Found SignedVoteOf
-pendingAt n [] = nothing
-pendingAt zero (v ∷ vs) = found v
-pendingAt (suc n) (v ∷ vs) = pendingAt n vs
 
 abbrev pub saidFound : Bool → SignedVote → Found SignedVoteOf
 saidFound true v = found (signedOf v)

@@ -1,2 +1,3 @@
 pub mod VoteCounter
 pub mod Answers
+pub mod Calls

@@ -1,17 +1,21 @@
-// votes.rs: the counter of pending and committed votes of one era.
+// votes.rs: the counter of pending and committed votes of one era, and the board of the committed ones.
 ghost use mathlib.Core.Path.{_≡_};
 ghost use Prim.Native.Nat.{ℕ, _<_};
 ghost use lib.ListN.{length};
-ghost use Rattle.lists.specs.Lists.{found, mapFound};
+ghost use Rattle.lists.specs.Lists.{found, mapFound, atPlace};
 ghost use Rattle.bincode.specs.Sizes.{base};
 ghost use Rattle.bincode.specs.Outcome.{done};
 ghost use Rattle.pub_key_map.specs.PubKeyMap.{nodesOf};
 ghost use Rattle.network_info.specs.NetworkInfo.{keyOf};
-ghost use Rattle.change.specs.Change.{changeOf, sameChange};
+ghost use Rattle.change.specs.Change.{changeOf};
 ghost use Rattle.votes.specs.Votes.{signedOf};
 ghost use Rattle.signed_votes.specs.SignedVotes.{votesOf};
-ghost use Rattle.vote_counter.specs.VoteCounter.{newHeld, counterOf, obsolete, isKey, addPending, addCommitted, signedWith, signVoteFor, pendingVotes, computeWinner, winnerAt};
-ghost use Rattle.vote_counter.specs.Answers.{addedOf, signedAnswer, SignRefusedKeeps, pendingAt, saidPending, NonePendingEmpty, choiceAt, saidWinner};
+ghost use Rattle.board.specs.Board.{saidStanding, NoStandingEmpty};
+ghost use Rattle.vote_counter.specs.VoteCounter.{newHeld, counterOf, withCommitted, boardAfter, boardRow, obsolete, isKey, commitVote, addPending, addCommitted};
+ghost use Rattle.vote_counter.specs.VoteCounter.{signedWith, signVoteFor, pendingVotes, computeWinner, winnerAt};
+ghost use Rattle.vote_counter.specs.Answers.{addedOf, committedOf, signedAnswer, SignRefusedKeeps, saidPending, NonePendingEmpty, choiceAt, saidWinner};
+use board::Board;
+use board::Standing;
 use change::Change;
 use fault_log::FaultKind;
 use network_info::NodeKey;
@@ -28,6 +32,7 @@ pub struct VoteCounter {
     pub era: u64,
     pub pending: SignedVotes,
     pub committed: SignedVotes,
+    pub board: Board,
 }
 
 // What a vote did: it was stored, it changed nothing, or it is a fault.
@@ -39,6 +44,13 @@ pub enum VoteOutcome {
 
 pub struct VoteAdded {
     pub counter: VoteCounter,
+    pub outcome: VoteOutcome,
+}
+
+// The committed votes after one more, whether it took a place among them, and what it did.
+pub struct VoteCommitted {
+    pub votes: SignedVotes,
+    pub taken: bool,
     pub outcome: VoteOutcome,
 }
 
@@ -94,13 +106,30 @@ fn is_valid(map: PubKeyMap, x: SignedVote) -> bool
     false
 }
 
-// Whether a vote is for a change.
-fn agrees(x: SignedVote, change: Change) -> bool
-    ensures { λ r. ⌜ r ≡ sameChange (signedOf x .vote .change) (changeOf change) ⌝ }
+// A vote of a batch among the committed votes: number, then era, then signature. One exit: so the votes that stay are not copied.
+pub fn commit_vote(votes: SignedVotes, era: u64, map: PubKeyMap, x: SignedVote) -> VoteCommitted
+    ensures { λ r. ⌜ committedOf r ≡ commitVote base era (nodesOf map) (votesOf votes) (signedOf x) ⌝ }
 {
     let vote = x.vote;
-    let other = vote.change;
-    other.same(change)
+    let mut next = votes;
+    let mut taken = false;
+    let mut outcome = VoteOutcome::Faulty(FaultKind::InvalidCommittedVote);
+    if is_obsolete(votes, x) {
+        outcome = VoteOutcome::Nothing;
+    } else {
+        if vote.era == era {
+            if is_valid(map, x) {
+                taken = votes.takes(x.voter);
+                next = votes.put(x);
+                outcome = VoteOutcome::Stored;
+            }
+        }
+    }
+    VoteCommitted {
+        votes: next,
+        taken,
+        outcome,
+    }
 }
 
 impl VoteCounter {
@@ -114,6 +143,7 @@ impl VoteCounter {
             era,
             pending: SignedVotes::empty(),
             committed: SignedVotes::empty(),
+            board: Board::empty(),
         }
     }
 
@@ -139,6 +169,7 @@ impl VoteCounter {
         }
         let pending = self.pending;
         let committed = self.committed;
+        let board = self.board;
         VoteAdded {
             counter: VoteCounter {
                 our_id: self.our_id,
@@ -147,40 +178,34 @@ impl VoteCounter {
                 era: self.era,
                 pending,
                 committed,
+                board,
             },
             outcome,
         }
     }
 
-    // A vote of a batch: number, then era, then signature. The counter is put together at one exit: so the votes that stay are not copied.
+    // The committed votes put in place of those there are. Where one of them took a place the board is worked out anew, else it stays.
+    pub fn with_committed(mut self, votes: SignedVotes, taken: bool) -> Self
+        ensures { λ r. ⌜ counterOf r ≡ withCommitted (counterOf self) (votesOf votes) (boardAfter taken (votesOf votes) (counterOf self .board)) ⌝ }
+    {
+        self.committed = votes;
+        if taken {
+            self.board = Board::of(votes);
+        }
+        self
+    }
+
+    // A vote of a batch: number, then era, then signature.
     pub fn add_committed_vote(mut self, x: SignedVote) -> VoteAdded
         ensures { λ r. ⌜ addedOf r ≡ addCommitted base (counterOf self) (signedOf x) ⌝ }
     {
-        let vote = x.vote;
         let map = self.pub_keys;
         let old = self.committed;
-        let mut outcome = VoteOutcome::Faulty(FaultKind::InvalidCommittedVote);
-        if is_obsolete(old, x) {
-            outcome = VoteOutcome::Nothing;
-        } else {
-            if vote.era == self.era {
-                if is_valid(map, x) {
-                    self.committed = old.put(x);
-                    outcome = VoteOutcome::Stored;
-                }
-            }
-        }
-        let pending = self.pending;
-        let committed = self.committed;
+        let r = commit_vote(old, self.era, map, x);
+        let votes = r.votes;
+        let outcome = r.outcome;
         VoteAdded {
-            counter: VoteCounter {
-                our_id: self.our_id,
-                secret_key: self.secret_key,
-                pub_keys: map,
-                era: self.era,
-                pending,
-                committed,
-            },
+            counter: self.with_committed(votes, r.taken),
             outcome,
         }
     }
@@ -228,7 +253,7 @@ impl VoteCounter {
 
     // The pending vote at a place, 0 first, of those newer than their voter's committed vote.
     pub fn pending_vote(self, place: usize) -> PendingVote
-        ensures { λ r. ⌜ (saidPending r ≡ pendingAt place (pendingVotes (counterOf self))) × NonePendingEmpty r ⌝ }
+        ensures { λ r. ⌜ (saidPending r ≡ atPlace place (pendingVotes (counterOf self))) × NonePendingEmpty r ⌝ }
     {
         let pending = self.pending;
         let committed = self.committed;
@@ -256,6 +281,15 @@ impl VoteCounter {
         }
     }
 
+    // The row of the board at a place, 0 first, as the counter holds it.
+    pub fn board_row(self, place: usize) -> Standing
+        ensures { λ r. ⌜ (saidStanding r ≡ boardRow (counterOf self) place) × NoStandingEmpty r ⌝ }
+    {
+        let board = self.board;
+        let committed = self.committed;
+        board.standing(committed, place)
+    }
+
     // The first voter, by ascending id, whose change more than f voters up to there have chosen; its place is one of the votes.
     pub fn compute_winner(self) -> Winner
         ensures { λ r. ⌜ (mapFound (choiceAt (votesOf (self .committed))) (saidWinner r) ≡ computeWinner (counterOf self))
@@ -276,7 +310,7 @@ impl VoteCounter {
             let mut j: usize = 0;
             while j <= i {
                 let other = committed.votes[j];
-                if agrees(other, change) {
+                if other.is_for(change) {
                     count += 1;
                     if f < count {
                         won = Winner::Voter(i);

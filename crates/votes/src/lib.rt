@@ -5,6 +5,7 @@ ghost use lib.ListN.{length};
 ghost use Rattle.bincode.specs.Read.{refuse};
 ghost use Rattle.bincode.specs.Sizes.{base};
 ghost use Rattle.bincode.specs.Writing.{written, writtenTo};
+ghost use Rattle.change.specs.Change.{changeOf, sameChange};
 ghost use Rattle.votes.specs.VoteHead.{headAnswer};
 ghost use Rattle.votes.specs.Votes.{voteOf, voteHeld, noVote, readVote, voteAnswer, voteBytes, signedOf, signedHeld, noSigned, readSignedVote, signedAnswer, signedBytes};
 use bincode::ReadU32;
@@ -52,6 +53,15 @@ impl SignedVote {
             voter: 0,
             sig: 0,
         }
+    }
+
+    // Whether a vote is for a change.
+    pub fn is_for(self, change: Change) -> bool
+        ensures { λ r. ⌜ r ≡ sameChange (signedOf self .vote .change) (changeOf change) ⌝ }
+    {
+        let vote = self.vote;
+        let own = vote.change;
+        own.same(change)
     }
 }
 

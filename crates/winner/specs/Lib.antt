@@ -1,1 +1,3 @@
 pub mod Winner
+pub mod Board
+pub mod BoardTerms

@@ -9,7 +9,7 @@ use Rattle.signed_votes.specs.SignedVotes.{votesOf}
 use Rattle.vote_counter.specs.declared.Winner.{Winner}
 use Rattle.vote_counter.specs.VoteCounter.{counterOf}
 use Rattle.vote_counter.specs.Answers.{choiceAt, saidWinner}
-use Rattle.vote_counter.proofs.PendingTurns.{place-within, view-at}
+use Rattle.lists.proofs.ViewLaws.{place-within, view-at}
 use Rattle.vote_counter.proofs.FewLaws.{few-votes}
 use borrow.Author.Needs.{needs}
 use Rattle.decision.proofs.elect.Statement.{statement}

@@ -13,8 +13,9 @@ use Rattle.bincode.proofs.RereadLaws.{Handling, handle-refused, reread-start, r
 use Rattle.pub_key_map.specs.PubKeyMap.{nodesOf}
 use Rattle.votes.specs.declared.ReadVoteHead.{ReadVoteHead}
 use Rattle.votes.specs.VoteHead.{headOf}
-use Rattle.votes.specs.Votes.{SignedVoteOf, noSigned, readSignedVote}
+use Rattle.votes.specs.Votes.{noSigned, readSignedVote}
 use Rattle.steps.specs.Steps.{WorkOf, committedVote}
+use Rattle.commit.specs.Tally.{Begun}
 use Rattle.commit.specs.Votes.{HeldAt}
 use Rattle.commit.proofs.VoteLaws.{held-old}
 use Rattle.commit.proofs.voting.commit_votes.Statement.{statement}
@@ -23,7 +24,7 @@ use Rattle.commit.proofs.voting.commit_votes.Tie as tie
 abbrev Inv-loop : tie.InvT-loop
 Inv-loop s at n proposer era map ids₀ kinds₀ faults t₀ f₀ c₀ i₀ ids kinds t f c i =
     (f ≤ base .faults) × ((length ids ≡ length ids₀) × (length kinds ≡ length kinds₀))
-    × ((w : WorkOf) (start : List SignedVoteOf) (x y : List ℕ) → HeldAt s era (nodesOf map) start x y w (record { tally = t₀; faults = f₀; ids = ids₀; kinds = kinds₀ })
+    × ((w : WorkOf) (start : Begun) (x y : List ℕ) → HeldAt s era (nodesOf map) start x y w (record { tally = t₀; faults = f₀; ids = ids₀; kinds = kinds₀ })
     → (u : WorkOf) × HeldAt s era (nodesOf map) start x y u (record { tally = t; faults = f; ids = ids; kinds = kinds }) × Handling (readSignedVote base s) (committedVote base proposer) n at w i c u)
 
 abbrev μ-loop : tie.MeasureT-loop

@@ -5,7 +5,7 @@ use native.Mathlib.Omega.{arith}
 use lib.ListN.{length-map}
 use Rattle.key_gen_message.specs.KeyGenMessage.{signedOf}
 use Rattle.message_store.specs.MessageStore.{held, storeOf}
-use Rattle.message_store.proofs.StoreLaws.{at-held, at-past}
+use Rattle.lists.proofs.PlaceLaws.{at-held, at-past}
 use Rattle.message_store.proofs.MessageStore.at.Statement.{statement}
 use Rattle.message_store.proofs.MessageStore.at.Tie as tie
 

@@ -7,7 +7,7 @@ abbrev Inv-loop : tie.InvT-loop
 Inv-loop forms word n at₀ k₀ at k = at ≤ n
 
 abbrev μ-loop : tie.MeasureT-loop
-μ-loop forms word n at₀ k₀ at k = 17 - k
+μ-loop forms word n at₀ k₀ at k = 18 - k
 
 loop-holds : tie.Need-loop-holds Inv-loop μ-loop
 loop-holds c = search needs

@@ -27,7 +27,7 @@ returns c =
     (⊎-elim
     (λ w. rw (w .5, w .6, cond-yes _ _ (eq-eqb _ _ (w .0 .taken)), cond-no _ _ (sym (w .1 .ensures) ∙ w .2 .left), cond-no _ _ (sym (w .3 .ensures) ∙ w .4 .left)))
     (λ w. rw (w .1, w .2, cond-no _ _ (ne-eqb _ _ (w .0 .left))))))
-    (c .before .before .if1 .came)
+    (c .before .before .before .if1 .came)
 
 pub add-pending-vote-spec : {M : Type 1} → statement M
 add-pending-vote-spec =

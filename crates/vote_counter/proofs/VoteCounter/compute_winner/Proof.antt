@@ -17,8 +17,9 @@ use Rattle.vote_counter.specs.VoteCounter.{computeWinner, winnerAt, coun
 use Rattle.vote_counter.specs.Answers.{choiceAt, saidWinner}
 use Rattle.vote_counter.specs.declared.VoteCounter.{VoteCounter}
 use Rattle.vote_counter.specs.declared.Winner.the-variants.{Voter, Nobody}
-use Rattle.vote_counter.proofs.PendingTurns.{view-at}
-use Rattle.vote_counter.proofs.WinnerTurns.{count-yes, count-no, voter-wins, voter-loses, voters-end}
+use Rattle.lists.proofs.ViewLaws.{view-at}
+use Rattle.winner.proofs.SupportTurns.{count-yes, count-no}
+use Rattle.vote_counter.proofs.WinnerTurns.{voter-wins, voter-loses, voters-end}
 use Rattle.vote_counter.proofs.CounterLaws.{winner-first, winner-chosen}
 use borrow.Author.Needs.{needs}
 use mathlib.Core.Bool.{true, false}
@@ -102,8 +103,8 @@ mul-other c = search needs
 element-copy-out-other : tie.Need-element-copy-out-other Inv-loop μ-loop Inv-voters μ-voters
 element-copy-out-other c = search needs
 
-agrees-requires : tie.Need-agrees-requires Inv-loop μ-loop Inv-voters μ-voters
-agrees-requires c κs = search needs
+is-for-requires : tie.Need-is-for-requires Inv-loop μ-loop Inv-voters μ-voters
+is-for-requires c κs = search needs
 
 add-count : tie.Need-add-count Inv-loop μ-loop Inv-voters μ-voters
 add-count c = search needs
@@ -120,7 +121,7 @@ loop-again c =
     let v = c .before .before .before .before .loop .inv in
     let k = c .before .before .before .loop-test .taken in
     let l : c .before .before .before .before .before .before .before .before .before .voters .i < length (votesOf x) = omega (arith, c .before .before .before .before .before .before .before .before .before .voters .inv .2, c .before .before .before .before .before .before .before .before .voters-test .taken) in
-    let e = sym (c .before .agrees .ensures) in
+    let e = sym (c .before .is-for .ensures) in
     ⊎-elim
     (λ w. let m = one-more x _ l _ _ _ k (v .1) _ (e ∙ w .0 .taken) in (omega (arith, k), w .2 ∙ m, omega (arith, w .2, w .1 .left), omega (arith, w .2, v .3), v .4))
     (λ w. let m = no-more x _ l _ _ _ k (v .1) _ (e ∙ w .0 .left) in (omega (arith, k), w .1 ∙ m, omega (arith, w .1, v .2), omega (arith, w .1, v .3), v .4))
@@ -169,7 +170,7 @@ returns-2 c =
     let v = c .before .before .before .before .before .loop .inv in
     let k = c .before .before .before .before .loop-test .taken in
     let l : i < length (votesOf x) = omega (arith, u .2, c .before .before .before .before .before .before .before .before .before .voters-test .taken) in
-    let m = one-more x i l _ _ _ k (v .1) _ (sym (c .before .before .agrees .ensures) ∙ c .before .if1 .taken) in
+    let m = one-more x i l _ _ _ k (v .1) _ (sym (c .before .before .is-for .ensures) ∙ c .before .if1 .taken) in
     at-place
     (c .before .before .before .before .before .before .before .before .before .before .before .before .before .before .before .args .self)
     (Voter i)
@@ -191,7 +192,7 @@ compute-winner-spec =
     loop-holds
     mul-other
     element-copy-out-other
-    agrees-requires
+    is-for-requires
     add-count
     add-j
     loop-less

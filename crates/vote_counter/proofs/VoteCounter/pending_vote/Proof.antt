@@ -3,13 +3,13 @@ use mathlib.Core.Path.{_≡_, refl, sym, _∙_}
 use native.Mathlib.Omega.{arith}
 use Prim.Native.Nat.{_-_, _≤_}
 use lib.ListN.{length, drop}
-use Rattle.lists.specs.Lists.{filter}
+use Rattle.lists.specs.Lists.{atPlace, filter}
 use Rattle.bincode.specs.Sizes.{base}
 use Rattle.votes.specs.Votes.{signedOf}
 use Rattle.signed_votes.specs.SignedVotes.{votesOf}
 use Rattle.vote_counter.specs.VoteCounter.{pendingVotes}
-use Rattle.vote_counter.specs.Answers.{pendingAt}
-use Rattle.vote_counter.proofs.PendingTurns.{newerThan, view-more, turn-obsolete, turn-found, turn-passed, turn-none}
+use Rattle.lists.proofs.ViewLaws.{view-more}
+use Rattle.vote_counter.proofs.PendingTurns.{newerThan, turn-obsolete, turn-found, turn-passed, turn-none}
 use borrow.Author.Needs.{needs}
 use Rattle.vote_counter.proofs.VoteCounter.pending_vote.Statement.{statement}
 use Rattle.vote_counter.proofs.VoteCounter.pending_vote.Tie as tie
@@ -17,7 +17,7 @@ use Rattle.vote_counter.proofs.VoteCounter.pending_vote.Tie as tie
 abbrev Inv-loop : tie.InvT-loop
 Inv-loop place pending committed n left₀ i₀ left i =
     (i ≤ n) × (n ≤ base .nodes) × (n ≡ length (votesOf pending))
-    × (pendingAt place (filter (newerThan (votesOf committed)) (votesOf pending)) ≡ pendingAt left (filter (newerThan (votesOf committed)) (drop i (votesOf pending))))
+    × (atPlace place (filter (newerThan (votesOf committed)) (votesOf pending)) ≡ atPlace left (filter (newerThan (votesOf committed)) (drop i (votesOf pending))))
 
 abbrev μ-loop : tie.MeasureT-loop
 μ-loop place pending committed n left₀ i₀ left i = n - i

@@ -1,0 +1,2 @@
+pub mod BoardTurns
+pub mod HandedLaws
