@@ -23,14 +23,15 @@ use Rattle.reference.specs.Reference.{RefState}
 use Rattle.reference.specs.Step.{refRun, refTaken}
 use Rattle.reference.proofs.PassedLaws.{other-taken}
 use Rattle.agreement.specs.Shared.{refOf}
-use Rattle.agreement.specs.Calls.{batch-call, run, asShared, batchCalls, givenBatches, reports, lastStamp}
+use Rattle.agreement.specs.Calls.{batch-call, run, asShared, batchCalls, givenBatches, reports, lastStamp, new-start}
 use Rattle.agreement.specs.Hypotheses.{FullBatch, Full, beganEra, leftOlder, OfBytes, StartBytes}
-use Rattle.agreement.specs.Claim.{Agree, SameOutcome}
+use Rattle.agreement.specs.Claim.{Agree, SameOutcome, OneBoard}
+use Rattle.vote_counter.specs.Calls.{InStep}
 use Rattle.agreement.specs.Formed.{Formed, CallFits, StartFits}
 use Rattle.agreement.specs.Witness.{alone, params, giverStart, adding, completing, batchOf, addBatch, lateBatch, completeStamp, completeBatch, callsBefore, callsAfter, everyCall, opened, added, ended, addReport, joinerBatch, planBuffer, keySet, planLength, joinerOpened, observerOpened, observerCalls, slowCalls}
 use Rattle.agreement.proofs.Agree.{start-opens}
 use Rattle.agreement.proofs.Joiner.{run-then}
-use Rattle.agreement.proofs.Claims.{reached-states-formed, one-start-agrees, one-start-agrees-given, joiner-agrees-given, full-replica-follows, other-era-left-out, last-report-told}
+use Rattle.agreement.proofs.Claims.{reached-states-formed, one-start-agrees, one-start-agrees-given, joiner-agrees-given, full-replica-follows, other-era-left-out, last-report-told, board-in-step, agreeing-one-board, joiner-one-board}
 use Rattle.agreement.proofs.WitnessReading.{bytes-are, map-bytes, params-bytes, asked-bytes, part-due-bytes, part-sent-bytes, vote-sent-bytes, adding-bytes, adding-read, completing-bytes, completing-read}
 use Rattle.agreement.proofs.WitnessSteps.{starts, observer-starts}
 use Rattle.agreement.proofs.WitnessCalls.{before-leads, every-call-accepted}
@@ -150,3 +151,18 @@ giver-and-joiner =
     (joiner-agrees-given giverStart start-bytes opened starts callsBefore before-bytes addBatch adding-bytes addReport (ap (λ (x : ProcessedOf). x .answer) reported) began left-none keySet (omega arith)
     planBuffer planLength plan-answered (base .due) 2 12 (record { state = joinerOpened; due = record { kind = Part; era = 9 } ∷ [] }) plan-joined
     callsAfter (batch-call joinerBatch ∷ []) after-full (joiner-full, tt) refl)
+
+-- 02, CR 3: the giver's board is in step at the end; the giver and the observer have one board, and so have giver and joiner
+pub ended-in-step : InStep (run base opened everyCall .counter)
+ended-in-step = board-in-step giverStart opened starts everyCall
+
+pub observer-board : OneBoard (run base opened everyCall) (run base observerOpened observerCalls)
+observer-board =
+    agreeing-one-board giverStart (new-start 3 13 5 (mapBytes fixed alone) (paramsBytes fixed params)) opened observerOpened starts observer-starts everyCall observerCalls giver-and-observer
+
+pub joiner-board : OneBoard (run base (processed base (run base opened callsBefore) addBatch .state) callsAfter) (run base joinerOpened (batch-call joinerBatch ∷ []))
+joiner-board =
+    joiner-one-board giverStart start-bytes opened starts callsBefore before-bytes addBatch adding-bytes addReport (ap (λ (x : ProcessedOf). x .answer) reported) began left-none keySet (omega arith)
+    planBuffer planLength plan-answered (base .due) 2 12 (record { state = joinerOpened; due = record { kind = Part; era = 9 } ∷ [] }) plan-joined
+    callsAfter (batch-call joinerBatch ∷ [])
+    (subst (λ (x : ProcessedOf). Agree base (x .state) callsAfter joinerOpened (batch-call joinerBatch ∷ [])) (sym reported) giver-and-joiner)
