@@ -1,8 +1,8 @@
--- In a formed state no list is longer than the map that it goes by: there are no more votes than nodes, so a member's vote always has a place; no more parts
+-- In a formed state no list is longer than the map that it goes by: there are no more votes than nodes, so a member's vote always has a place, and no more rows of the board; no more parts
 -- than nodes of the candidate map, and no more acknowledgers or good values of a part.
 -- Assumes nothing.
 use Prim.Native.Nat.{ℕ, suc, _+_, _-_, _≤_, _<_}
-use mathlib.Core.Path.{_≡_, refl}
+use mathlib.Core.Path.{_≡_, refl, ap}
 use mathlib.Core.List.{List, [], _∷_}
 use mathlib.Core.Bool.{Bool, true, false, cond}
 use native.Mathlib.Omega.{arith}
@@ -19,6 +19,7 @@ use Rattle.network_info.specs.NetworkInfo.{isMember}
 use Rattle.votes.specs.Votes.{SignedVoteOf}
 use Rattle.signed_votes.specs.SignedVotes.{voterOf}
 use Rattle.signed_votes.proofs.VotesLaws.{AscendsFrom, insert-ascends}
+use Rattle.board.proofs.HandedLaws.{worked-few}
 use Rattle.key_gen.specs.KeyGen.{ProposalOf, byProposer}
 use Rattle.key_gen_state.specs.KeyGenState.{KeyGenStateOf}
 use Rattle.node_change.specs.NodeChange.{idOf}
@@ -103,6 +104,10 @@ module _ (z : Sizes) (s : StateOf) (f : Formed z s) where
 
   pub few-pending : length (s .counter .pending) ≤ length (nodesIn s)
   few-pending = few-votes z (nodesIn s) (f .nodes-formed) (s .counter .pending) (f .pending-formed)
+
+  -- 02, CR 3: the board has no more rows than the map has nodes
+  pub few-rows : length (s .counter .board) ≤ length (nodesIn s)
+  few-rows = omega (arith, ap length (f .board-worked), worked-few (s .counter .committed), few-committed)
 
   pub committed-place : (v : SignedVoteOf) → isMember (nodesIn s) (v .voter) ≡ true → insertWithin voterOf (z .nodes) v (s .counter .committed) ≡ insert voterOf v (s .counter .committed)
   committed-place = vote-place z (nodesIn s) (f .nodes-formed) (s .counter .committed) (f .committed-formed)

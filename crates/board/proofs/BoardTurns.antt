@@ -21,7 +21,16 @@ use Rattle.winner.proofs.LowestTurns.{none-supports, lowest-yes, lowest-no, low
 use Rattle.winner.proofs.BoardOrder.{inOrder-map}
 use Rattle.board.specs.declared.BoardRow.{BoardRow}
 use Rattle.board.specs.Board.{countIn, voterIn, castOf, keptRow, workedOut}
-use Rattle.board.specs.Turns.{rank, choiceAt, Begins}
+use Rattle.board.specs.Turns.{rank}
+
+-- the vote at a place begins a row unless an earlier one is for its change; then the row counts all votes for it
+abbrev pub choiceAt : List SignedVoteOf → ℕ → ChangeOf
+choiceAt vs i = getD vs i noSigned .vote .change
+
+abbrev pub Begins : List SignedVoteOf → ℕ → Bool → BoardRow → Type 0
+Begins vs i first row =
+    (first ≡ eqb (support sameChange (choiceAt vs i) (take i (choices (map castOf vs)))) 0)
+    × (first ≡ true → row ≡ keptRow (rowFor sameChange (map castOf vs) (choiceAt vs i)))
 
 -- the place of a row among others
 module _ (r : BoardRow) where

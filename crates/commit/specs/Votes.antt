@@ -29,7 +29,7 @@ pub record Point : Type 0 where
   pub ids : List ℕ
   pub kinds : List ℕ
 
--- that is what it holds of the work w, of a batch that began with committed votes `start` and with lists that were lent as ids₀ and kinds₀
+-- that is what it holds of the work w, of a batch that began with committed votes and board `start` and with lists that were lent as ids₀ and kinds₀
 abbrev pub HeldAt : List ℕ → ℕ → List Node → Begun → List ℕ → List ℕ → WorkOf → Point → Type 0
 HeldAt s era ns start ids₀ kinds₀ w p = FaultsHeld w (p .faults) ids₀ (p .ids) kinds₀ (p .kinds) × VotesHeld s start w era ns (p .tally)
 

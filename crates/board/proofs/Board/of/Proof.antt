@@ -18,9 +18,8 @@ use Rattle.winner.specs.Board.{inOrder}
 use Rattle.winner.proofs.BoardOrder.{length-placed}
 use Rattle.board.specs.declared.BoardRow.{BoardRow}
 use Rattle.board.specs.Board.{rowsOf, countIn, voterIn, workedOut}
-use Rattle.board.specs.Turns.{choiceAt}
 use Rattle.board.proofs.BoardTurns.{Marked, marked-start, marked-again, Marking, marking-start, marking-yes, marking-no, marking-end, begun-before, first-here}
-use Rattle.board.proofs.BoardTurns.{Counted, counted-start, counted-yes, counted-no, begins, toCome, none-in, row-in, row-there, all-in}
+use Rattle.board.proofs.BoardTurns.{choiceAt, Counted, counted-start, counted-yes, counted-no, begins, toCome, none-in, row-in, row-there, all-in}
 use Rattle.board.proofs.Board.of.Statement.{statement}
 use Rattle.board.proofs.Board.of.Tie as tie
 
