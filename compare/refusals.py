@@ -1,6 +1,7 @@
 """Calls built to be refused, each for one row of the scope document's table, and pairs of rows for the order. The number is stated here, as the
 call is built; it is never taken from the engine."""
 import requests
+import schedule_edges
 import wire
 from season import LAST, FULL
 
@@ -146,7 +147,7 @@ def row_8_to_10(s, r):
 
 
 def row_14(s, r):
-    return [(14, "schedule %d %s" % (r.randrange(9), wire.schedule(x).hex())) for x in ((2, 0), (3, 0, 0), (3, 2**32 - 1, 1), (3, 2**32 - 1, 2**32 - 1))]
+    return [(14, schedule_edges.call(r.randrange(9), x)) for x in ((2, 0), (3, 0, 0), (3, 2**32 - 1, 1), (3, 2**32 - 1, 2**32 - 1))]
 
 
 ROWS = [row_1, row_2_and_3, row_4, row_15, row_5, row_6, row_8_to_10, row_14]

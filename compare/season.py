@@ -7,6 +7,7 @@ import random
 import subprocess
 import board
 import requests
+import schedule_edges
 import wire
 
 LAST = 2**64 - 1
@@ -44,6 +45,7 @@ class Season:
         self.late = random.Random("late %d" % seed)
         self.away = random.Random("leaving %d" % seed)
         self.tally = random.Random("board %d" % seed)
+        self.edges = random.Random("schedule %d" % seed)
         self.every_board = deep  # whether a board is asked behind each call that may change a state
         self.boards = []  # for each board that was asked: the call before it and its answer, the states told before that call and now
         self.heard = []  # key messages that were received or handed back, some of which are stored
@@ -398,7 +400,6 @@ class Season:
             self.say("next %d" % inner, 5 if self.era + inner > LAST - 1 else None)
         elif k == 4:
             s = r.choice([(0,), (1,), (2, 1), (2, 3), (2, 0), (3, 2, 3), (3, 0, 0), (3, 0, 4), (3, 2**32 - 1, 1), (3, 2**32 - 2, 1)])
-            period = {0: 1, 1: 1}.get(s[0], sum(s[1:]))
-            self.say("schedule %d %s" % (r.randrange(12), wire.schedule(s).hex()), 14 if period == 0 or period >= 2**32 else None)
+            self.say(schedule_edges.call(r.randrange(12), s), schedule_edges.number(s))
         else:
             self.say("plan %d %d" % (r.choice([0, 77, LAST]), r.choice([448, 448, 2000])))

@@ -1,4 +1,5 @@
 pub mod ScheduleLaws
 pub mod ScheduleCodes
 pub mod CallLaws
+pub mod CycleLaws
 pub mod ScheduleCauses

@@ -10,6 +10,7 @@ use Rattle.bincode.specs.Stands.{concat}
 use Rattle.honey_badger.specs.declared.EncryptionSchedule.{EncryptionSchedule}
 use Rattle.honey_badger.specs.declared.EncryptionSchedule.the-variants.{Always, Never, EveryNthEpoch, TickTock}
 use Rattle.honey_badger.specs.declared.Fields.{Fields}
+use Rattle.honey_badger.specs.declared.Cycle.{Cycle}
 use Rattle.honey_badger.specs.declared.UseOnEpoch.{UseOnEpoch}
 use Rattle.honey_badger.specs.declared.UseOnEpoch.the-variants as use-on
 use Rattle.honey_badger.specs.declared.ReadSchedule.{ReadSchedule}
@@ -35,6 +36,17 @@ period Never = 1
 period (EveryNthEpoch n) = n
 period (TickTock on off) = on + off
 
+-- 02, CR 4: what the remainders of encrypting epochs stay below; it may pass the period, as that of `TickTock(on, 0)` does
+abbrev pub bound : EncryptionSchedule → ℕ
+bound Always = 1
+bound Never = 0
+bound (EveryNthEpoch n) = 1
+bound (TickTock on off) = on + 1
+
+-- both of them
+abbrev pub cycleOf : EncryptionSchedule → Cycle
+cycleOf x = record { period = period x; bound = bound x }
+
 -- row 14: period 0 or over 2^32-1
 unfoldable pub row14 : EncryptionSchedule → Bool
 row14 x = eqb (period x) 0 || ltb 4294967295 (period x)
@@ -45,6 +57,10 @@ encrypts Always epoch = true
 encrypts Never epoch = false
 encrypts (EveryNthEpoch n) epoch = eqb (epoch % n) 0
 encrypts (TickTock on off) epoch = leb (epoch % (on + off)) on
+
+-- 02, CR 4: one remainder and one comparison, of any period p and bound b
+unfoldable pub isBelow : ℕ → ℕ → ℕ → Bool
+isBelow p b epoch = ltb (epoch % p) b
 
 -- the schedule call
 unfoldable pub useOnEpoch : EncryptionSchedule → ℕ → Outcome Bool

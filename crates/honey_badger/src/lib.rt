@@ -5,7 +5,7 @@ ghost use lib.ListN.{length};
 ghost use Rattle.bincode.specs.Read.{numberOf, whole};
 ghost use Rattle.bincode.specs.Numbers.{fixed};
 ghost use Rattle.bincode.specs.Writing.{written, writtenTo};
-ghost use Rattle.honey_badger.specs.EncryptionSchedule.{fieldsOf, sameSchedule, useOnEpoch, saidUse, readSchedule, saidSchedule, scheduleBytes};
+ghost use Rattle.honey_badger.specs.EncryptionSchedule.{fieldsOf, sameSchedule, cycleOf, useOnEpoch, saidUse, readSchedule, saidSchedule, scheduleBytes};
 use bincode::ReadU32;
 
 pub enum EncryptionSchedule {
@@ -27,6 +27,23 @@ pub struct Fields {
     pub tag: u32,
     pub first: u32,
     pub second: u32,
+}
+
+// 02, CR 4: a schedule encrypts the epochs whose remainder by the period is below the bound.
+pub struct Cycle {
+    pub period: u64,
+    pub bound: u64,
+}
+
+impl Cycle {
+    // Row 14 refuses a longer period: the Rust adds the two numbers of `TickTock` as u32.
+    pub const LONGEST: u64 = 4294967295;
+
+    fn new(period: u64, bound: u64) -> Self
+        ensures { λ r. ⌜ r ≡ record { period = period; bound = bound } ⌝ }
+    {
+        Cycle { period, bound }
+    }
 }
 
 impl EncryptionSchedule {
@@ -74,47 +91,35 @@ impl EncryptionSchedule {
         true
     }
 
+    // The one place where the schedule call tells the four apart; in u64, since on + 1 may pass u32.
+    fn cycle(self) -> Cycle
+        ensures { λ r. ⌜ r ≡ cycleOf self ⌝ }
+    {
+        match self {
+            EncryptionSchedule::Always => Cycle::new(1, 1),
+            EncryptionSchedule::Never => Cycle::new(1, 0),
+            EncryptionSchedule::EveryNthEpoch(n) => Cycle::new(n as u64, 1),
+            EncryptionSchedule::TickTock(on, off) => Cycle::new(
+                on as u64 + off as u64,
+                on as u64 + 1,
+            ),
+        }
+    }
+
     pub fn use_on_epoch(self, epoch: u64) -> UseOnEpoch
         ensures { λ r. ⌜ saidUse r ≡ useOnEpoch self epoch ⌝ }
     {
-        match self {
-            EncryptionSchedule::Always => UseOnEpoch::Yes,
-            EncryptionSchedule::Never => UseOnEpoch::No,
-            EncryptionSchedule::EveryNthEpoch(n) => every_nth(n, epoch),
-            EncryptionSchedule::TickTock(on, off) => tick_tock(on, off, epoch),
+        let c = self.cycle();
+        let period = c.period;
+        let bound = c.bound;
+        if period == 0 || Cycle::LONGEST < period {
+            return UseOnEpoch::Refused(14);
         }
-    }
-}
-
-fn every_nth(n: u32, epoch: u64) -> UseOnEpoch
-    ensures { λ r. ⌜ saidUse r ≡ useOnEpoch (EncryptionSchedule.EveryNthEpoch n) epoch ⌝ }
-{
-    let period = n as u64;
-    if period == 0 {
-        return UseOnEpoch::Refused(14);
-    }
-    if epoch % period == 0 {
-        UseOnEpoch::Yes
-    } else {
-        UseOnEpoch::No
-    }
-}
-
-// The Rust adds the two numbers as u32, so a period over 2^32 - 1 is refused too.
-fn tick_tock(on: u32, off: u32, epoch: u64) -> UseOnEpoch
-    ensures { λ r. ⌜ saidUse r ≡ useOnEpoch (EncryptionSchedule.TickTock on off) epoch ⌝ }
-{
-    let period = on as u64 + off as u64;
-    if period == 0 {
-        return UseOnEpoch::Refused(14);
-    }
-    if 4294967295 < period {
-        return UseOnEpoch::Refused(14);
-    }
-    if epoch % period <= on as u64 {
-        UseOnEpoch::Yes
-    } else {
-        UseOnEpoch::No
+        if epoch % period < bound {
+            UseOnEpoch::Yes
+        } else {
+            UseOnEpoch::No
+        }
     }
 }
 

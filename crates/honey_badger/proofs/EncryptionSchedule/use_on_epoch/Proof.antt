@@ -1,51 +1,44 @@
 use borrow.Author.Needs.{needs}
-use Rattle.honey_badger.specs.EncryptionSchedule.{useOnEpoch, row14, encrypts}
+use Prim.Native.Nat.{_<_}
+use mathlib.Core.Path.{_≡_, sym, ap, _∙_, subst}
+use mathlib.Core.Logic.{⊎-elim}
+use borrow.Author.Tests.{ltb-true, ltb-false, lt-ltb, le-ltb}
+use Rattle.bincode.specs.Outcome.{done}
+use Rattle.honey_badger.specs.EncryptionSchedule.{isBelow, useOnEpoch}
+use Rattle.honey_badger.proofs.ScheduleLaws.{use-zero, use-long}
+use Rattle.honey_badger.proofs.CycleLaws.{use-told}
 use Rattle.honey_badger.proofs.EncryptionSchedule.use_on_epoch.Statement.{statement}
 use Rattle.honey_badger.proofs.EncryptionSchedule.use_on_epoch.Tie as tie
 
-enum-told : tie.Need-enum-told
-enum-told c = search needs
+cycle-requires : tie.Need-cycle-requires
+cycle-requires c κs = search needs
 
-enum-told-2 : tie.Need-enum-told-2
-enum-told-2 c = search needs
+rem-if3 : tie.Need-rem-if3
+rem-if3 c = search needs
 
-enum-known-self : tie.Need-enum-known-self
-enum-known-self c = search needs
-
-every-nth-requires : tie.Need-every-nth-requires
-every-nth-requires c κs = search needs
-
-enum-known-self-2 : tie.Need-enum-known-self-2
-enum-known-self-2 c = search needs
-
-tick-tock-requires : tie.Need-tick-tock-requires
-tick-tock-requires c κs = search needs
-
-returns : tie.Need-returns
-unfolding useOnEpoch row14 encrypts
-returns c = rw (c .enum-told .given .1)
+-- behind row 14, whichever schedule it is
+below : (c : tie.Else2) →
+    let a = c .before .before .before .args in
+    let r = c .before .before .cycle .result in useOnEpoch (a .self) (a .epoch) ≡ done (isBelow (r .period) (r .bound) (a .epoch))
+below c = use-told _ _ _ (c .before .before .cycle .ensures) (c .before .if1 .left) (ltb-false _ _ (c .if2 .left))
 
 returns-2 : tie.Need-returns-2
-unfolding useOnEpoch row14 encrypts
-returns-2 c = rw (c .enum-told2 .given .1)
+unfolding isBelow
+returns-2 c = sym (below (c .before) ∙ ap done (lt-ltb _ _ (c .if3 .taken)))
 
 returns-3 : tie.Need-returns-3
-returns-3 c = rw (c .before .before .self .given .1) (c .every-nth .ensures)
+unfolding isBelow
+returns-3 c = sym (below (c .before) ∙ ap done (le-ltb _ _ (c .if3 .left)))
 
-returns-4 : tie.Need-returns-4
-returns-4 c = rw (c .before .before .self2 .given .1) (c .tick-tock .ensures)
+-- row 14
+returns : tie.Need-returns
+returns c =
+    let a = c .before .before .args in
+    let e = ap (λ v. v .period) (c .before .cycle .ensures) in
+    ⊎-elim
+    (λ k. sym (use-zero (a .self) (a .epoch) (sym e ∙ k .taken)))
+    (λ k. sym (use-long (a .self) (a .epoch) (λ q. k .0 .left (e ∙ q)) (subst (λ p. 4294967295 < p) e (ltb-true _ _ (k .1 .taken)))))
+    (c .if1 .came)
 
 pub use-on-epoch-spec : {M : Type 1} → statement M
-use-on-epoch-spec =
-    tie.close
-    (tie.spec
-    enum-told
-    enum-told-2
-    enum-known-self
-    every-nth-requires
-    enum-known-self-2
-    tick-tock-requires
-    returns
-    returns-2
-    returns-3
-    returns-4)
+use-on-epoch-spec = tie.close (tie.spec cycle-requires returns rem-if3 returns-2 returns-3)
