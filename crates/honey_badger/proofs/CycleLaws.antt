@@ -5,9 +5,9 @@ use mathlib.Core.Path.{_≡_, refl, sym, ap, _∙_, subst}
 use mathlib.Core.Logic.{_↔_}
 use mathlib.Core.Bool.{Bool, true, false, cond}
 use native.Mathlib.Omega.{arith}
-use native.Mathlib.Nat.{mod-lt, add-mod-right}
-use lib.Dec.{ltb, lit<}
-use borrow.Author.Tests.{lt-ltb, le-ltb, eqb-true, eq-eqb, leb-true, le-leb}
+use native.Mathlib.Nat.{mod-lt, mod-eq-of-lt, add-mod-right}
+use lib.Dec.{ltb, leb, lit<}
+use borrow.Author.Tests.{lt-ltb, le-ltb, ltb-true, eqb-true, eq-eqb, leb-true, leb-false, le-leb}
 use Rattle.lists.proofs.ListLaws.{false-true}
 use Rattle.bincode.specs.Outcome.{done, refused}
 use Rattle.honey_badger.specs.declared.EncryptionSchedule.{EncryptionSchedule}
@@ -17,20 +17,26 @@ use Rattle.honey_badger.specs.EncryptionSchedule.{period, bound, cycleOf
 use Rattle.honey_badger.proofs.ScheduleLaws.{use-done}
 
 -- of any period p and bound b
-module _ (p b epoch : ℕ) where
+module _ (p b : ℕ) where
   -- it begins again after its period
-  pub begins-again : isBelow p b (epoch + p) ≡ isBelow p b epoch
+  pub begins-again : (epoch : ℕ) → isBelow p b (epoch + p) ≡ isBelow p b epoch
   unfolding isBelow
-  begins-again = ap (λ r. ltb r b) (add-mod-right epoch p)
+  begins-again epoch = ap (λ r. ltb r b) (add-mod-right epoch p)
 
-  -- a bound that reaches the period is above every remainder
-  pub reaches-all : 0 < p → p ≤ b → isBelow p b epoch ≡ true
+  -- every epoch is below exactly where the bound reaches the period
+  pub every-below : 0 < p → ((epoch : ℕ) → isBelow p b epoch ≡ true) ↔ (p ≤ b)
   unfolding isBelow
-  reaches-all some h = let r = mod-lt epoch some in lt-ltb (epoch % p) b (omega arith)
+  every-below some = (λ all. go all (leb p b) refl, λ h epoch. let r = mod-lt epoch some in lt-ltb (epoch % p) b (omega arith))
+    where
+      go : ((epoch : ℕ) → ltb (epoch % p) b ≡ true) → (t : Bool) → leb p b ≡ t → p ≤ b
+      go all true e = leb-true p b e
+      go all false e =
+          let r = mod-eq-of-lt (leb-false p b e) in
+          let k = ltb-true (b % p) b (all b) in absurd (omega arith)
 
 module _ (epoch : ℕ) where
   -- the theorem: an epoch encrypts exactly when its remainder by the period is below the bound. It asks nothing of the schedule, so it
-  -- covers each that 14 does not refuse; no other proof goes by the four
+  -- covers each that 14 does not refuse. The laws of epochs behind it rest on it, without a case for each schedule
   pub encrypts-exactly : (x : EncryptionSchedule) → (encrypts x epoch ≡ true) ↔ (epoch % period x < bound x)
   unfolding encrypts
   encrypts-exactly Always = (λ e. let r : epoch % 1 < 1 = mod-lt epoch (lit< tt) in omega arith, λ h. refl)
@@ -76,10 +82,11 @@ use-again x epoch =
     ∙ ap (λ t. cond (row14 x) (refused 14) (done t)) (begins-again (period x) (bound x) epoch)
     ∙ sym (use-compared x epoch)
 
--- one whose bound reaches its period encrypts every epoch
-pub use-every : (x : EncryptionSchedule) (epoch : ℕ) → (period x ≡ 0 → ⊥) → period x ≤ 4294967295 → period x ≤ bound x → useOnEpoch x epoch ≡ done true
-use-every x epoch some few h =
-    use-done x epoch some few ∙ ap done (encrypts-below x epoch ∙ reaches-all (period x) (bound x) epoch (omega (arith, some)) h)
+-- it encrypts every epoch exactly where its bound reaches its period
+pub every-epoch : (x : EncryptionSchedule) → 0 < period x → ((epoch : ℕ) → encrypts x epoch ≡ true) ↔ (period x ≤ bound x)
+every-epoch x some =
+    let all = every-below (period x) (bound x) some in
+    (λ h. all .0 (λ epoch. sym (encrypts-below x epoch) ∙ h epoch), λ k epoch. encrypts-below x epoch ∙ all .1 k epoch)
 
 -- what the code has behind the test of row 14
 module _ (x : EncryptionSchedule) (epoch : ℕ) (c : Cycle) (told : c ≡ cycleOf x) where
