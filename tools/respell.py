@@ -93,7 +93,19 @@ def in_comment(text, plain, apart):
     return re.sub(r"`[^`\n]*`", lambda m: respell(m.group(0), plain, apart), text)
 
 
+def imported(text):
+    """What a file takes from modules that aren't the repository's keeps its name."""
+    own = {path.split("/")[1] for path in files("crates/*/specs/Lib.antt")}
+    taken = set()
+    for m in re.finditer(r"^\s*(?:ghost )?use ([^\s{]+)\.\{(.*)\}", text, re.M):
+        if not re.match(r"Rattle[.·](%s)[.·]" % "|".join(own), m.group(1)):
+            taken |= set(re.split(r",\s*", m.group(2)))
+    return taken
+
+
 def antt(text, plain, apart):
+    taken = imported(text)
+    plain = {n: new for n, new in plain.items() if n not in taken}
     out = []
     for line in text.split("\n"):
         m = re.search(r"(?:^|(?<=\s))--(?:\s|$)", line)

@@ -4,7 +4,7 @@ use Prim.Native.Nat.{ℕ, ◌≤◌}
 use mathlib.Core.Path.{◌≡◌, refl, ap, ◌∙◌}
 use mathlib.Core.List.{List, [], ◌∷◌, map}
 use mathlib.Core.Bool.{Bool, true, false, cond}
-use lib.ListN.{length, length_map}
+use lib.ListN.{length, length-map}
 use Rattle.lists.specs.Lists.{Found, found, nothing, map_found, filter}
 use Rattle.lists.proofs.FilterLaws.{filter_map}
 use Rattle.bincode.specs.Sizes.{Sizes}
@@ -29,7 +29,7 @@ use Rattle.agreement.proofs.StepLaws.{item_count, contribs_shared}
 -- as many complete parts
 count_is : (g : KeyGenOf) → length (filter (ref_complete (threshold g)) (map part_ref g.parts)) ≡ count_complete g
 unfolding complete count_complete
-count_is g = ap length (filter_map part_ref (ref_complete (threshold g)) g.parts) ∙ length_map (filter (complete (threshold g)) g.parts) part_ref
+count_is g = ap length (filter_map part_ref (ref_complete (threshold g)) g.parts) ∙ length-map (filter (complete (threshold g)) g.parts) part_ref
 
 -- key generation is ready for both, or for neither
 pub ready_is : (g : Found KeyGenStateOf) → ref_ready (map_found candidate_ref g) ≡ ready_state g

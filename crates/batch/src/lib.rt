@@ -1,4 +1,6 @@
 // batch.rs: what a batch call reports (01: the report), and the join plan that a report gives.
+#![tactic(auto)]
+
 ghost use Rattle.std.specs.Prelude.{◌≡◌, not};
 ghost use Rattle.bincode.specs.Sizes.{base};
 ghost use Rattle.change.specs.Change.{state_of};
@@ -10,7 +12,7 @@ use params::Params;
 use pub_key_map::PubKeyMap;
 
 // Epoch and era of the batch, what changed, and the map and parameters after it.
-#[derive(Drop)]
+#[derive(Clone, Copy)]
 pub struct Batch {
     pub epoch: u64,
     pub era: u64,
@@ -20,7 +22,7 @@ pub struct Batch {
 }
 
 // How many bytes of a plan were written, that there is no plan, or a refusal.
-#[derive(Drop)]
+#[derive(Clone, Copy)]
 pub enum Planned {
     Upto(usize),
     NoPlan,

@@ -1,6 +1,8 @@
 // The batch call alone, for its time without a log's text: a node starts in era 0, takes an opening batch of that era, and then one batch again and again. The input is
 // seven numbers of eight bytes (how many batches in all; the lengths of map, params, opening batch, batch, and verdicts, which are all 0; the batch's era), then these
 // parts one behind the other.
+#![tactic(auto)]
+
 ghost use Rattle.std.specs.Prelude.{◌≤◌};
 
 use bincode::ReadU64;
@@ -74,7 +76,7 @@ fn is_accepted(outcome: StartOutcome) -> bool {
 }
 
 // Where the parts end, one behind the other, and the batch's era.
-#[derive(Drop)]
+#[derive(Clone, Copy)]
 pub struct Ends {
     pub map: usize,
     pub params: usize,

@@ -1,4 +1,6 @@
 // Numbers of bincode's default encoding, and what every reader and writer above is made of.
+#![tactic(auto)]
+
 ghost use Rattle.std.specs.Prelude.{◌≡◌, ◌+◌, ◌≤◌, length, take, drop};
 ghost use Rattle.std.proofs.lemmas.List.Edits.{sets};
 ghost use Rattle.bincode.specs.Read.{number_of};
@@ -7,20 +9,20 @@ ghost use Rattle.bincode.specs.Writing.{has_room, written, written_to};
 ghost use Rattle.bincode.specs.Answer.{said32, said64, said_step};
 
 // A number with the next position, or a refusal.
-#[derive(Drop)]
+#[derive(Clone, Copy)]
 pub enum ReadU32 {
     Value(u32, usize),
     Refused(u8),
 }
 
-#[derive(Drop)]
+#[derive(Clone, Copy)]
 pub enum ReadU64 {
     Value(u64, usize),
     Refused(u8),
 }
 
 // The next position, or a refusal: where the value holds an array, it stands beside this.
-#[derive(Drop)]
+#[derive(Clone, Copy)]
 pub enum Step {
     Next(usize),
     Refused(u8),

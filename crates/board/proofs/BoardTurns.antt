@@ -6,7 +6,7 @@ use mathlib.Core.List.{List, [], ◌∷◌, ◌++◌, map}
 use mathlib.Core.Bool.{Bool, true, false, cond, not}
 use native.Mathlib.Omega.{arith}
 use lib.Dec.{eqb}
-use lib.ListN.{length, take, drop, get_or, set, replicate, length_map, get_or-map}
+use lib.ListN.{length, take, drop, get_or, set, replicate, length-map, get_or-map}
 use lib.Seq.{take_all, get_or-set_same, get_or-set_other}
 use borrow.Author.Tests.{eq-eqb, ne_eqb, eqb-true, eqb-false}
 use Rattle.lists.proofs.ListLaws.{false_true, rest_none}
@@ -86,10 +86,10 @@ module _ (vs : List SignedVoteOf) where
   choice_at_lem j = get_or-map (λ (c : Cast ChangeOf). c.choice) casts j (cast_of no_signed) ∙ ap (λ (c : Cast ChangeOf). c.choice) (cast_at j)
 
   many : length casts ≡ length vs
-  many = length_map vs cast_of
+  many = length-map vs cast_of
 
   choices_many : length (choices casts) ≡ length vs
-  choices_many = length_map casts (λ (c : Cast ChangeOf). c.choice) ∙ many
+  choices_many = length-map casts (λ (c : Cast ChangeOf). c.choice) ∙ many
 
   -- how many of the votes before place i are for a change, one vote further
   module _ (x : ChangeOf) (j : ℕ) (k : j < length vs) where
@@ -271,4 +271,4 @@ module _ (vs : List SignedVoteOf) where
 
   pub all_in : (i : ℕ) → length vs ≤ i → (done : List BoardRow) → in_order count_in voter_in done (to_come i) ≡ done
   unfolding in_order
-  all_in i h done = rw (choices_end same_change (choices (map cast_of vs)) i (omega (arith, length_map (map cast_of vs) (λ (c : Cast ChangeOf). c.choice), length_map vs cast_of)))
+  all_in i h done = rw (choices_end same_change (choices (map cast_of vs)) i (omega (arith, length-map (map cast_of vs) (λ (c : Cast ChangeOf). c.choice), length-map vs cast_of)))

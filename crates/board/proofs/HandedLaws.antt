@@ -5,7 +5,7 @@ use mathlib.Core.Path.{◌≡◌, refl, sym, ap, ◌∙◌}
 use mathlib.Core.List.{List, [], ◌∷◌, map}
 use mathlib.Core.Logic.{⊎_elim}
 use native.Mathlib.Omega.{arith}
-use lib.ListN.{length, length_map}
+use lib.ListN.{length, length-map}
 use Rattle.lists.specs.Lists.{Found, found, nothing, map_found, at_place, lookup}
 use Rattle.lists.proofs.PlaceLaws.{at_map}
 use Rattle.lists.proofs.SortedLaws.{map_lookup}
@@ -24,7 +24,7 @@ use Rattle.board.specs.Board.{count_in, cast_of, kept_row, board_of, worked_out,
 -- the counts of the rows add up to the number of votes
 pub worked_sum : (vs : List SignedVoteOf) → sum (map count_in (worked_out vs)) ≡ length vs
 unfolding worked_out
-worked_sum vs = ap sum (counts (board_of vs)) ∙ counts_add_up same_change change_true change_refl (map cast_of vs) ∙ length_map vs cast_of
+worked_sum vs = ap sum (counts (board_of vs)) ∙ counts_add_up same_change change_true change_refl (map cast_of vs) ∙ length-map vs cast_of
   where
     counts : (rs : List (Row ChangeOf)) → map count_in (map kept_row rs) ≡ map (λ (r : Row ChangeOf). r.count) rs
     counts [] = refl
@@ -33,7 +33,7 @@ worked_sum vs = ap sum (counts (board_of vs)) ∙ counts_add_up same_change chan
 -- at most as many rows as votes
 pub worked_few : (vs : List SignedVoteOf) → length (worked_out vs) ≤ length vs
 unfolding worked_out
-worked_few vs = omega (arith, length_map (board_of vs) kept_row, rows_few same_change (map cast_of vs), length_map vs cast_of)
+worked_few vs = omega (arith, length-map (board_of vs) kept_row, rows_few same_change (map cast_of vs), length-map vs cast_of)
 
 -- voters that ascend do not stand twice
 not_behind : (low : ℕ) (vs : List SignedVoteOf) → AscendsFrom voter_of low vs → (n : ℕ) → n < low → Among n (voters (map cast_of vs)) → ⊥

@@ -1,4 +1,6 @@
 // 02, CR 3: the board of changes with their voters' counts, largest count first, equal counts by lowest voter. The Rust has none.
+#![tactic(auto)]
+
 ghost use Rattle.std.specs.Prelude.{◌≡◌, true, false, ◌≤◌, ◌<◌, length};
 ghost use Rattle.lists.specs.Lists.{lookup};
 ghost use Rattle.bincode.specs.Sizes.{base};
@@ -13,21 +15,21 @@ use pub_key_map::PubKeyMap;
 use signed_votes::SignedVotes;
 
 // A row: how many voters are for a change, and the lowest of them; the change is looked up among the votes.
-#[derive(Drop)]
+#[derive(Clone, Copy)]
 pub struct BoardRow {
     pub voter: u32,
     pub count: usize,
 }
 
 // Places from `count` on do not count.
-#[derive(Drop)]
+#[derive(Clone, Copy)]
 pub struct Board {
     pub count: usize,
     pub rows: [BoardRow; Board::LIMIT],
 }
 
 // A row that is handed out, or that there is none at the place; then the change beside it is the empty map, and the count 0.
-#[derive(Drop)]
+#[derive(Clone, Copy)]
 pub struct Standing {
     pub found: bool,
     pub change: Change,

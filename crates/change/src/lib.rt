@@ -1,4 +1,6 @@
 // change.rs: a change of the network, and how far it has come.
+#![tactic(auto)]
+
 ghost use Rattle.std.specs.Prelude.{◌≡◌, [], ◌∷◌, ◌+◌, ◌*◌, ◌≤◌, length};
 ghost use Rattle.bincode.specs.Read.{refuse, whole};
 ghost use Rattle.bincode.specs.Numbers.{fixed, bytes_of};
@@ -14,14 +16,14 @@ use bincode::{ReadU32, Step};
 use honey_badger::{EncryptionSchedule, ReadSchedule};
 use pub_key_map::PubKeyMap;
 
-#[derive(Drop)]
+#[derive(Clone, Copy)]
 pub enum ChangeKind {
     NodeChange,
     EncryptionSchedule(EncryptionSchedule),
 }
 
 // The map of a node change stands beside the kind; beside a schedule it is empty.
-#[derive(Drop)]
+#[derive(Clone, Copy)]
 pub struct Change {
     pub kind: ChangeKind,
     pub map: PubKeyMap,
@@ -67,7 +69,7 @@ impl Change {
     }
 }
 
-#[derive(Drop)]
+#[derive(Clone, Copy)]
 pub enum Progress {
     None,
     InProgress,
@@ -75,7 +77,7 @@ pub enum Progress {
 }
 
 // The change stands beside the progress; beside `None` it is the empty node change.
-#[derive(Drop)]
+#[derive(Clone, Copy)]
 pub struct ChangeState {
     pub progress: Progress,
     pub change: Change,
@@ -113,13 +115,13 @@ impl ChangeState {
     }
 }
 
-#[derive(Drop)]
+#[derive(Clone, Copy)]
 pub struct ReadChange {
     pub step: Step,
     pub change: Change,
 }
 
-#[derive(Drop)]
+#[derive(Clone, Copy)]
 pub struct ReadState {
     pub step: Step,
     pub state: ChangeState,

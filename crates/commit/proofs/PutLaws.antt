@@ -5,7 +5,7 @@ use mathlib.Core.Path.{◌≡◌, refl, sym, ap, ◌∙◌}
 use mathlib.Core.List.{List, [], ◌∷◌, map}
 use mathlib.Core.Bool.{Bool, true, false}
 use native.Mathlib.Omega.{arith}
-use lib.ListN.{length, length_map}
+use lib.ListN.{length, length-map}
 use Rattle.lists.specs.Lists.{insert, has_key, insert_within, takes_place}
 use Rattle.lists.proofs.ListLaws.{cond_yes}
 use Rattle.lists.proofs.SortedLaws.{map_has_key, within_taken, within_left}
@@ -95,7 +95,7 @@ module _ (s : List ℕ) (era : ℕ) (ns : List Node) (v : SignedVoteOf) (a : Ent
     voters = tallied_voters s era ns t
 
     long : length es ≡ length vs
-    long = sym (length_map es entry_voter) ∙ sym (ap length voters) ∙ length_map vs voter_of
+    long = sym (length-map es entry_voter) ∙ sym (ap length voters) ∙ length-map vs voter_of
 
     has : has_key entry_voter a.voter es ≡ has_key voter_of (voter_of v) vs
     has =

@@ -5,7 +5,7 @@ use mathlib.Core.Path.{◌≡◌, refl, sym, ap, ◌∙◌}
 use mathlib.Core.List.{List, [], ◌∷◌, map}
 use mathlib.Core.Bool.{true, false}
 use native.Mathlib.Omega.{arith}
-use lib.ListN.{length, take, drop, set, length-take, length-set, length_map}
+use lib.ListN.{length, take, drop, set, length-take, length-set, length-map}
 use lib.Seq.{take_all, take_at}
 use Rattle.lists.specs.Lists.{Found, map_found, lookup}
 use Rattle.lists.proofs.ListLaws.{cond_yes, cond_no, rest_none, false_true}
@@ -67,7 +67,7 @@ pub kept_filled : (t : SignedVotes) (old es : List Entry) (n : ℕ) → n ≡ le
     → take n es ≡ map kept_entry (votes_of t)
 unfolding filled
 kept_filled t old es n e l q =
-    let k : length (map kept_of (held t)) ≡ n = length_map (held t) kept_of ∙ sym e in
+    let k : length (map kept_of (held t)) ≡ n = length-map (held t) kept_of ∙ sym e in
     rw (q, take_all (length old) (map kept_of (held t)) (omega arith)) (take_at (map kept_of (held t)) (drop (length (map kept_of (held t))) old) n k ∙ kept_all (held t))
 
 -- stored in place of another, no entry comes to it

@@ -1,4 +1,6 @@
 // dynamic_honey_badger.rs, `process_output`, its loop over contributions: votes and key messages of a batch, each read again where it stands and handled.
+#![tactic(auto)]
+
 ghost use Rattle.std.specs.Prelude.{◌≡◌, [], ◌+◌, ◌≤◌, length};
 ghost use Rattle.bincode.specs.Sizes.{base};
 ghost use Rattle.pub_key_map.specs.PubKeyMap.{nodes_of};
@@ -19,7 +21,7 @@ pub mod tally;
 pub mod voting;
 
 // What a batch came to: committed votes as entries, key generation, how many verdicts were used, and how many faults and acks the lists hold.
-#[derive(Drop)]
+#[derive(Clone, Copy)]
 pub struct Committed {
     pub tally: Tally,
     pub state: KeyGenState,

@@ -24,7 +24,7 @@ use network_info::NodeIndex;
 use pub_key_map::PubKeyMap;
 
 // What a committed key message comes to: nothing to tell, an ack that is due for a proposer, or whose fault it is.
-#[derive(Drop)]
+#[derive(Clone, Copy)]
 pub enum MessageTold {
     Quiet,
     Owed(usize),
@@ -33,28 +33,28 @@ pub enum MessageTold {
 }
 
 // What a message asks of the proposal at a place: nothing, since all is told, a part with a commitment, or an ack of the node with an index.
-#[derive(Drop)]
+#[derive(Clone, Copy)]
 pub enum What {
     Told(MessageTold),
     Part(u64),
     Ack(usize),
 }
 
-#[derive(Drop)]
+#[derive(Clone, Copy)]
 pub struct Ask {
     pub place: usize,
     pub what: What,
 }
 
 // A proposal after a message, and what the message comes to.
-#[derive(Drop)]
+#[derive(Clone, Copy)]
 pub struct Stepped {
     pub proposal: Proposal,
     pub told: MessageTold,
 }
 
 // Key generation after the messages, how many verdicts are used, and how many faults and due items there are.
-#[derive(Drop)]
+#[derive(Clone, Copy)]
 pub struct MessagesDone {
     pub state: KeyGenState,
     pub judged: usize,

@@ -9,7 +9,7 @@ ghost use Rattle.commit.specs.Tally.{entries_of, entry_voter, no_entry, no_entri
 use signed_votes::SignedVotes;
 
 // A fresh one is a vote of this batch, which stands at `place` of its bytes; another was there before, and its place says nothing.
-#[derive(Drop)]
+#[derive(Clone, Copy)]
 pub struct Entry {
     pub voter: u32,
     pub fresh: bool,
@@ -18,7 +18,7 @@ pub struct Entry {
 }
 
 // Places from `count` on do not count.
-#[derive(Drop)]
+#[derive(Clone, Copy)]
 pub struct Tally {
     pub count: usize,
     pub entries: [Entry; Tally::LIMIT],

@@ -18,7 +18,7 @@ use vote_counter::VoteCounter;
 use votes::VoteHead;
 
 // The entries after votes, and how many faults there are.
-#[derive(Drop)]
+#[derive(Clone, Copy)]
 pub struct VotesDone {
     pub tally: Tally,
     pub faults: usize,

@@ -1,5 +1,7 @@
 // dynamic_honey_badger.rs, `process_output`, behind its loop: a ready key generation, else the winner, else nothing.
 // All but the message store is handed over and back; the store is filtered by the caller where an era begins.
+#![tactic(auto)]
+
 ghost use Rattle.std.specs.Prelude.{◌≡◌, List, ◌≤◌};
 ghost use Rattle.lists.specs.Lists.{Found, found, nothing};
 ghost use Rattle.bincode.specs.Sizes.{base};
@@ -25,7 +27,7 @@ use vote_counter::{VoteCounter, Winner};
 
 // A node's state after a batch but for the store, and whether an era begins, so that the store loses lower eras; the reported change, whether a part is due, and the
 // recipe where key generation completed; else it is the empty one.
-#[derive(Drop)]
+#[derive(Clone, Copy)]
 pub struct Decision {
     pub params: Params,
     pub vote_counter: VoteCounter,
@@ -38,7 +40,7 @@ pub struct Decision {
 }
 
 // The winning change, or that there is none; then the change beside it does not count.
-#[derive(Drop)]
+#[derive(Clone, Copy)]
 pub struct Elected {
     pub found: bool,
     pub change: Change,

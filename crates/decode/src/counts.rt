@@ -24,7 +24,7 @@ pub(crate) fn faulty(out: &mut [u8], b: &[u8]) -> usize {
 }
 
 // The counter after votes, and where reading stopped.
-#[derive(Drop)]
+#[derive(Clone, Copy)]
 pub struct Committed {
     pub counter: VoteCounter,
     pub step: Step,

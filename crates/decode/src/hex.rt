@@ -1,7 +1,7 @@
 // Bytes as lowercase hexadecimal digits, two to a byte.
 ghost use Rattle.std.specs.Prelude.{◌≤◌, ◌<◌, length};
 
-#[derive(Drop)]
+#[derive(Clone, Copy)]
 pub enum Digit {
     Value(u8),
     Nothing,
@@ -23,7 +23,7 @@ fn digit_of(b: u8) -> Digit {
     Digit::Nothing
 }
 
-#[derive(Drop)]
+#[derive(Clone, Copy)]
 pub enum Unhexed {
     Bytes(usize),
     Bad,

@@ -38,7 +38,7 @@ fn append(line: &mut [u8], n: usize, part: &[u8]) -> usize
 
 // How far the input is taken: `held` bytes of a line, which is `whole` or not; of the last chunk the bytes from `at` to `filled` are still to
 // be taken; there is no `more` once the input has ended.
-#[derive(Drop)]
+#[derive(Clone, Copy)]
 pub struct Taken {
     pub held: usize,
     pub whole: bool,

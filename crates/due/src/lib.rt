@@ -1,16 +1,18 @@
 // dynamic_honey_badger.rs, `send_transaction`: what this node has to send, as a list for the host, which signs it (01: the due list).
+#![tactic(auto)]
+
 ghost use Rattle.std.specs.Prelude.{◌≡◌, ◌∷◌, [], ◌++◌, ◌≤◌, length, take};
 ghost use Rattle.bincode.specs.Sizes.{base};
 ghost use Rattle.due.specs.Due.{due_of, no_item, no_due};
 
 // A part of the own, or an ack for the part of the proposer with an index.
-#[derive(Drop)]
+#[derive(Clone, Copy)]
 pub enum DueKind {
     Part,
     Ack(usize),
 }
 
-#[derive(Drop)]
+#[derive(Clone, Copy)]
 pub struct DueItem {
     pub kind: DueKind,
     pub era: u64,
@@ -28,7 +30,7 @@ impl DueItem {
 }
 
 // In order of arising; places from `count` on do not count.
-#[derive(Drop)]
+#[derive(Clone, Copy)]
 pub struct DueList {
     pub count: usize,
     pub items: [DueItem; DueList::LIMIT],

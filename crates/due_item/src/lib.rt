@@ -1,4 +1,6 @@
 // dynamic_honey_badger.rs, `send_transaction`: a due item that the host hands back signed, to wait for a batch like any other message.
+#![tactic(auto)]
+
 ghost use Rattle.std.specs.Prelude.{◌≡◌};
 ghost use Rattle.bincode.specs.Sizes.{base};
 ghost use Rattle.pub_key_map.specs.PubKeyMap.{nodes_of};
@@ -13,7 +15,7 @@ use message_store::MessageStore;
 use pub_key_map::PubKeyMap;
 
 // Whether a due item is stored, what it did, and the message to store; it is empty where none is.
-#[derive(Drop)]
+#[derive(Clone, Copy)]
 struct Fated {
     stored: bool,
     outcome: Handling,

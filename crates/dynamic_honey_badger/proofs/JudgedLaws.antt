@@ -7,7 +7,7 @@ use mathlib.Core.Path.{◌≡◌, refl, sym, ap, ◌∙◌}
 use native.Mathlib.Omega.{arith}
 use Prim.Native.Nat.{ℕ, ◌+◌, ◌≤◌, ◌<◌}
 use lib.Dec.{leb}
-use lib.ListN.{length, length_map}
+use lib.ListN.{length, length-map}
 use Rattle.lists.specs.Lists.{Found, found, nothing}
 use Rattle.lists.proofs.ListLaws.{length_live}
 use Rattle.bincode.specs.Outcome.{done, refused}
@@ -39,8 +39,8 @@ pub full_by_count : (x : MessageStore) → length x.messages ≡ base.store → 
 full_by_count x l = by (leb base.store x.count) refl
   where
     by : (b : Bool) → leb base.store x.count ≡ b → row12 base (store_of x) ≡ leb base.store x.count
-    by true e = row12_holds base (store_of x) (omega (arith, length_map (held x) signed_of, (length_live x.messages x.count base.store l).1 (leb-true base.store x.count e))) ∙ sym e
-    by false e = row12_not base (store_of x) (omega (arith, leb-false base.store x.count e, length_map (held x) signed_of, (length_live x.messages x.count base.store l).0 (omega (arith, leb-false base.store x.count e)))) ∙ sym e
+    by true e = row12_holds base (store_of x) (omega (arith, length-map (held x) signed_of, (length_live x.messages x.count base.store l).1 (leb-true base.store x.count e))) ∙ sym e
+    by false e = row12_not base (store_of x) (omega (arith, leb-false base.store x.count e, length-map (held x) signed_of, (length_live x.messages x.count base.store l).0 (omega (arith, leb-false base.store x.count e)))) ∙ sym e
 
 refused_not_done : (n : ℕ) (ms : List SignedKeyGenMsgOf) → refused n ≡ done ms → ⊥
 refused_not_done n ms e = let w : ◌≡◌ {A = ℕ} 0 1 = cc in omega arith

@@ -1,4 +1,6 @@
 // dynamic_honey_badger.rs: the state of a node, how it starts, own votes, received messages, and what a host asks between batches.
+#![tactic(auto)]
+
 ghost use Rattle.std.specs.Prelude.{◌≡◌, cond, length};
 ghost use Rattle.lists.specs.Lists.{found, nothing, at_place};
 ghost use Rattle.bincode.specs.Sizes.{base};
@@ -39,7 +41,7 @@ use vote_counter::{PendingVote, SignOutcome, VoteCounter, VoteOutcome};
 use votes::SignedVote;
 
 // Whether there was a report, and the epoch and era that the last one has; without one both are 0.
-#[derive(Drop)]
+#[derive(Clone, Copy)]
 pub struct ReportStamp {
     pub given: bool,
     pub epoch: u64,
@@ -47,7 +49,7 @@ pub struct ReportStamp {
 }
 
 // Own id and key, map, era and votes are the counter's.
-#[derive(Drop)]
+#[derive(Clone, Copy)]
 pub struct DynamicHoneyBadger {
     pub params: Params,
     pub vote_counter: VoteCounter,
@@ -57,14 +59,14 @@ pub struct DynamicHoneyBadger {
 }
 
 // A node that starts, or a refusal; the state beside it is then the empty one.
-#[derive(Drop)]
+#[derive(Clone, Copy)]
 pub struct Started {
     pub outcome: StartOutcome,
     pub state: DynamicHoneyBadger,
 }
 
 // A node that joins, and how many due items stand in the lent lists, or a refusal; the state beside it is then the empty one, and there is no item.
-#[derive(Drop)]
+#[derive(Clone, Copy)]
 pub struct JoinStarted {
     pub outcome: StartOutcome,
     pub state: DynamicHoneyBadger,
@@ -72,7 +74,7 @@ pub struct JoinStarted {
 }
 
 // An own vote was cast, it did nothing, or it was refused.
-#[derive(Drop)]
+#[derive(Clone, Copy)]
 pub enum VoteDone {
     Cast,
     Nothing,
@@ -80,7 +82,7 @@ pub enum VoteDone {
 }
 
 // The state after an own vote; the vote to broadcast stands beside it. Where none was cast it is empty, and the state is the one given.
-#[derive(Drop)]
+#[derive(Clone, Copy)]
 pub struct Voted {
     pub state: DynamicHoneyBadger,
     pub outcome: VoteDone,
@@ -88,28 +90,28 @@ pub struct Voted {
 }
 
 // What a message did: nothing to tell, a fault of its sender, or a refusal.
-#[derive(Drop)]
+#[derive(Clone, Copy)]
 pub enum Handling {
     Quiet,
     Faulty(FaultKind),
     Refused(u8),
 }
 
-#[derive(Drop)]
+#[derive(Clone, Copy)]
 pub struct Handled {
     pub state: DynamicHoneyBadger,
     pub outcome: Handling,
 }
 
 // What an own vote is to be for; where none is to be cast, the change beside it is empty.
-#[derive(Drop)]
+#[derive(Clone, Copy)]
 struct Wanted {
     outcome: VoteDone,
     change: Change,
 }
 
 // The vote counter after an own vote, and the vote. Where none was cast it is empty, and the counter is the one given.
-#[derive(Drop)]
+#[derive(Clone, Copy)]
 struct CastVote {
     counter: VoteCounter,
     outcome: VoteDone,
@@ -117,7 +119,7 @@ struct CastVote {
 }
 
 // What a message changes: nothing, the pending votes, its sender's count, or that and the store.
-#[derive(Drop)]
+#[derive(Clone, Copy)]
 enum Task {
     Nothing,
     Vote,
@@ -126,21 +128,21 @@ enum Task {
 }
 
 // What a message is to do, the outcome of all tasks but a vote, and key generation with the sender counted.
-#[derive(Drop)]
+#[derive(Clone, Copy)]
 struct Judged {
     task: Task,
     outcome: Handling,
     counted: KeyGenState,
 }
 
-#[derive(Drop)]
+#[derive(Clone, Copy)]
 pub enum NextEpoch {
     Epoch(u64),
     Refused(u8),
 }
 
 // Epoch and era of the last report, or none: none was made since the start or the joining.
-#[derive(Drop)]
+#[derive(Clone, Copy)]
 pub enum LastReport {
     Report(u64, u64),
     None,

@@ -1,10 +1,12 @@
 // fault_log.rs: what a node is blamed for. Kinds are those that the Rust's code names (01: `HbFault` stays with the host).
+#![tactic(auto)]
+
 ghost use Rattle.std.specs.Prelude.{◌≡◌, ◌∷◌, [], ◌++◌, ◌≤◌, length, take};
 ghost use Rattle.bincode.specs.Sizes.{base};
 ghost use Rattle.fault_log.specs.FaultLog.{fault_number, part_fault_number, ack_fault_number, faults_of, no_fault, no_faults};
 
 // sync_key_gen.rs: what is wrong with a part.
-#[derive(Drop)]
+#[derive(Clone, Copy)]
 pub enum PartFault {
     RowCount,
     MultipleParts,
@@ -14,7 +16,7 @@ pub enum PartFault {
 }
 
 // sync_key_gen.rs: what is wrong with an ack.
-#[derive(Drop)]
+#[derive(Clone, Copy)]
 pub enum AckFault {
     ValueCount,
     MissingPart,
@@ -23,7 +25,7 @@ pub enum AckFault {
     ValueCommitment,
 }
 
-#[derive(Drop)]
+#[derive(Clone, Copy)]
 pub enum FaultKind {
     InvalidVoteSignature,
     InvalidCommittedVote,
@@ -39,7 +41,7 @@ pub enum FaultKind {
 }
 
 // The faulty node and what it is blamed for.
-#[derive(Drop)]
+#[derive(Clone, Copy)]
 pub struct Fault {
     pub node_id: u32,
     pub kind: FaultKind,
@@ -63,7 +65,7 @@ impl Fault {
 }
 
 // In order of arising; places from `count` on do not count.
-#[derive(Drop)]
+#[derive(Clone, Copy)]
 pub struct FaultLog {
     pub count: usize,
     pub faults: [Fault; FaultLog::LIMIT],

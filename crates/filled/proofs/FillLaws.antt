@@ -7,7 +7,7 @@ use mathlib.Core.Bool.{Bool, true, false}
 use native.Mathlib.Omega.{arith}
 use native.Mathlib.Numerals.{add-one}
 use lib.Dec.{ltb}
-use lib.ListN.{length, take, drop, get_or, set, length-append, length-take, length-drop, length_map, drop_of_length-le}
+use lib.ListN.{length, take, drop, get_or, set, length-append, length-take, length-drop, length-map, drop_of_length-le}
 use lib.Seq.{drop-cons, set_at, set_out, take_all, take-append-le, take-nil, take-suc, length-take-le, get_or-take}
 use borrow.Author.Tests.{ltb-true, ltb-false}
 use Rattle.filled.specs.Filled.{filled}
@@ -90,7 +90,7 @@ module _ {A B : Type 0} (f : A → B) (array : List A) (count : ℕ) (old : List
 
     -- as many are filled as turns were made
     done : length (map f (take i (take count array))) ≡ i
-    done = length_map (take i (take count array)) f ∙ length-take-le i (take count array) (omega arith)
+    done = length-map (take i (take count array)) f ∙ length-take-le i (take count array) (omega arith)
 
     -- there is a place: what f says of the element is stored there
     pub fill_store : (x : B) → x ≡ f (get_or array i z) → i < length list → (after : List B) → after ≡ set list i x → FilledTo (i + 1) after
@@ -120,7 +120,7 @@ module _ {A : Type 0} (limit : ℕ) (xs : List A) (n : ℕ) (size : length xs �
 
     pub capped_put : {B : Type 0} (f : A → B) (old list : List B) → list ≡ filled (map f xs) old → (x : B) → x ≡ f a
         → set list n x ≡ filled (map f (take limit (xs ++ (a ∷ [])))) old
-    capped_put f old list e x s = rw (capped_more, map-append f xs (a ∷ []), e, s) (filled_next (map f xs) old n (f a) (length_map xs f ∙ size))
+    capped_put f old list e x s = rw (capped_more, map-append f xs (a ∷ []), e, s) (filled_next (map f xs) old n (f a) (length-map xs f ∙ size))
 
   -- at the limit it is left out
   module _ (b : n ≤ limit) (h : limit ≤ n) where

@@ -4,7 +4,7 @@ use Prim.Native.Nat.{ℕ, ◌≤◌}
 use mathlib.Core.Path.{◌≡◌, ap, ◌∙◌}
 use mathlib.Core.List.{List, ◌∷◌, ◌++◌, map, map-append, append_assoc}
 use native.Mathlib.Omega.{arith}
-use lib.ListN.{length, drop, get_or, length_map}
+use lib.ListN.{length, drop, get_or, length-map}
 use lib.Seq.{get_or_at}
 use Rattle.fault_log.specs.declared.FaultKind.{FaultKind}
 use Rattle.fault_log.specs.declared.Fault.{Fault}
@@ -19,12 +19,12 @@ use Rattle.filled.proofs.FillLaws.{filled_room}
 placed_at : {A : Type 0} (f : A → ℕ) (before behind : List A) (x : A) (all : List A) (old new : List ℕ) → all ≡ before ++ (x ∷ behind) → length all ≤ length old → new ≡ filled (map f all) old
     → get_or new (length before) 0 ≡ f x
 placed_at f before behind x all old new a h e =
-    let l : length (map f all) ≤ length old = omega (arith, length_map all f) in
+    let l : length (map f all) ≤ length old = omega (arith, length-map all f) in
     let split : map f all ≡ map f before ++ (f x ∷ map f behind) = ap (map f) a ∙ map-append f before (x ∷ behind) in
     let rest = drop (length (map f all)) old in
     let whole : new ≡ map f before ++ (f x ∷ (map f behind ++ rest)) =
     e ∙ filled_room (map f all) old l ∙ ap (λ (ys : List ℕ). ys ++ rest) split ∙ append_assoc (map f before) (f x ∷ map f behind) rest in
-    ap (λ (ys : List ℕ). get_or ys (length before) 0) whole ∙ get_or_at (map f before) (f x) (map f behind ++ rest) 0 (length before) (length_map before f)
+    ap (λ (ys : List ℕ). get_or ys (length before) 0) whole ∙ get_or_at (map f before) (f x) (map f behind ++ rest) 0 (length before) (length-map before f)
 
 -- 01: "Faults go into a lent list of records, each a station id and a kind", in order
 module _ (faults before behind : List Fault) (id : ℕ) (k : FaultKind) (stands : faults ≡ before ++ (record { node_id = id; kind = k } ∷ behind))

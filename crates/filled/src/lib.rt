@@ -1,4 +1,6 @@
 // Lent lists that are filled from the first place on: what they hold, and the laws of the loops that do so; a number, and a due item, stored at a place.
+#![tactic(auto)]
+
 ghost use Rattle.std.specs.Prelude.{◌≡◌, set};
 ghost use Rattle.filled.specs.Filled.{shorter};
 ghost use Rattle.filled.specs.Numbers.{due_number, due_proposer, DueAt};

@@ -1,4 +1,6 @@
 // honey_badger.rs: the schedule of threshold encryption.
+#![tactic(auto)]
+
 ghost use Rattle.std.specs.Prelude.{◌≡◌, ◌≤◌, length};
 ghost use Rattle.bincode.specs.Read.{number_of, whole};
 ghost use Rattle.bincode.specs.Numbers.{fixed};
@@ -7,7 +9,7 @@ ghost use Rattle.honey_badger.specs.EncryptionSchedule.{fields_of, same_schedule
 
 use bincode::ReadU32;
 
-#[derive(Drop)]
+#[derive(Clone, Copy)]
 pub enum EncryptionSchedule {
     Always,
     Never,
@@ -16,7 +18,7 @@ pub enum EncryptionSchedule {
 }
 
 // Whether an epoch's contributions are encrypted, or a refusal.
-#[derive(Drop)]
+#[derive(Clone, Copy)]
 pub enum UseOnEpoch {
     Yes,
     No,
@@ -24,7 +26,7 @@ pub enum UseOnEpoch {
 }
 
 // A schedule's tag with its two numbers, 0 where it has none.
-#[derive(Drop)]
+#[derive(Clone, Copy)]
 pub struct Fields {
     pub tag: u32,
     pub first: u32,
@@ -32,7 +34,7 @@ pub struct Fields {
 }
 
 // 02, CR 4: a schedule encrypts the epochs whose remainder by the period is below the bound.
-#[derive(Drop)]
+#[derive(Clone, Copy)]
 pub struct Cycle {
     pub period: u64,
     pub bound: u64,
@@ -126,7 +128,7 @@ impl EncryptionSchedule {
     }
 }
 
-#[derive(Drop)]
+#[derive(Clone, Copy)]
 pub enum ReadSchedule {
     Value(EncryptionSchedule, usize),
     Refused(u8),

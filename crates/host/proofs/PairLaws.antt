@@ -5,7 +5,7 @@ use mathlib.Core.Path.{◌≡◌, refl, sym, ap, ◌∙◌}
 use mathlib.Core.List.{List, [], ◌∷◌, ◌++◌, map}
 use native.Mathlib.Omega.{arith}
 use native.Mathlib.Numerals.{add-one}
-use lib.ListN.{length, take, get_or, set, length_map}
+use lib.ListN.{length, take, get_or, set, length-map}
 use lib.Seq.{length-take-le, take_at, take-take, take-suc-set}
 use Rattle.fault_log.specs.declared.Fault.{Fault}
 use Rattle.filled.specs.Filled.{filled}
@@ -51,6 +51,6 @@ filled_front xs old new n places e h l f =
 pub lists_paired : (fs : List Fault) (n places : ℕ) (ids ids' kinds kinds' : List ℕ) → n ≡ length fs → n ≤ places → places ≤ length ids → places ≤ length kinds
     → FaultsIn fs (take places ids) (take places ids') (take places kinds) (take places kinds') → pairs (take n ids') (take n kinds') ≡ map record_of fs
 lists_paired fs n places ids ids' kinds kinds' e h li lk p =
-    let a : take n ids' ≡ map fault_id fs = filled_front (map fault_id fs) ids ids' n places (e ∙ sym (length_map fs fault_id)) h (omega (arith, length_map fs fault_id, length-take-le places ids li)) p.0 in
-    let b : take n kinds' ≡ map kind_number fs = filled_front (map kind_number fs) kinds kinds' n places (e ∙ sym (length_map fs kind_number)) h (omega (arith, length_map fs kind_number, length-take-le places kinds lk)) p.1 in
+    let a : take n ids' ≡ map fault_id fs = filled_front (map fault_id fs) ids ids' n places (e ∙ sym (length-map fs fault_id)) h (omega (arith, length-map fs fault_id, length-take-le places ids li)) p.0 in
+    let b : take n kinds' ≡ map kind_number fs = filled_front (map kind_number fs) kinds kinds' n places (e ∙ sym (length-map fs kind_number)) h (omega (arith, length-map fs kind_number, length-take-le places kinds lk)) p.1 in
     rw (a, b) (pairs_of fs)

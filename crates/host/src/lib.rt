@@ -1,4 +1,6 @@
 // The batch call with a list of fault records that the host lends. A refused call writes nothing.
+#![tactic(auto)]
+
 ghost use Rattle.std.specs.Prelude.{◌≡◌, ◌<◌, ◌≤◌, length, get_or, set, take};
 ghost use Rattle.bincode.specs.Sizes.{base};
 ghost use Rattle.filled.specs.Filled.{filled};
@@ -9,7 +11,7 @@ use fault_log::FaultLog;
 use process_batch::Processed;
 
 // A faulty node, and the number of what it is blamed for.
-#[derive(Drop)]
+#[derive(Clone, Copy)]
 pub struct FaultRecord {
     pub node_id: u32,
     pub kind: u8,
@@ -25,14 +27,14 @@ pub fn append(list: &mut [FaultRecord], at: usize, node_id: u32, kind: u8)
 }
 
 // Records in order; places from `count` on do not count.
-#[derive(Drop)]
+#[derive(Clone, Copy)]
 struct FaultRecords {
     count: usize,
     items: [FaultRecord; FaultLog::LIMIT],
 }
 
 // What a call gave, and its faults as records.
-#[derive(Drop)]
+#[derive(Clone, Copy)]
 struct Answered {
     processed: Processed,
     faults: FaultRecords,

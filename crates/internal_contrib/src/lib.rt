@@ -1,4 +1,6 @@
 // mod.rs: `InternalContrib`, and a batch of them. There is no heap, so a contribution is kept as the places of its parts, to be read again.
+#![tactic(auto)]
+
 ghost use Rattle.std.specs.Prelude.{◌≡◌, [], ◌-◌, ◌≤◌, length};
 ghost use Rattle.bincode.specs.Read.{refuse, number_of, map_read};
 ghost use Rattle.bincode.specs.Items.{many};
@@ -13,7 +15,7 @@ ghost use Rattle.internal_contrib.specs.Index.{contribs_in, index_held, place_in
 use bincode::{ReadU32, ReadU64, Step};
 
 // How many items stand from a position on, with the position behind them, or a refusal.
-#[derive(Drop)]
+#[derive(Clone, Copy)]
 pub enum ReadCount {
     Value(u64, usize),
     Refused(u8),
@@ -32,7 +34,7 @@ impl ReadCount {
 }
 
 // Where the parts of a contribution stand: its user bytes, and the counts of its messages and of its votes.
-#[derive(Drop)]
+#[derive(Clone, Copy)]
 pub struct Contrib {
     pub id: u32,
     pub user: usize,
@@ -48,7 +50,7 @@ impl Contrib {
     pub const USER: u64 = 4096;
 }
 
-#[derive(Drop)]
+#[derive(Clone, Copy)]
 pub enum ReadContrib {
     Value(Contrib, usize),
     Refused(u8),
@@ -67,7 +69,7 @@ impl ReadContrib {
 }
 
 // What may follow in a batch: the least id, and how many votes and messages are left of the total.
-#[derive(Drop)]
+#[derive(Clone, Copy)]
 pub struct Budget {
     pub low: u64,
     pub left: u64,
@@ -235,14 +237,14 @@ pub fn read_contrib(s: &[u8], at: usize, b: Budget) -> ReadContrib
 }
 
 // Where a contribution's user bytes start and how many they are, if there is one.
-#[derive(Drop)]
+#[derive(Clone, Copy)]
 pub enum UserPlace {
     At(usize, u64),
     Nothing,
 }
 
 // The contributions of a batch in its order: those below the count.
-#[derive(Drop)]
+#[derive(Clone, Copy)]
 pub struct BatchIndex {
     pub count: usize,
     pub contribs: [Contrib; BatchIndex::LIMIT],
@@ -299,14 +301,14 @@ impl BatchIndex {
 }
 
 // The number of a batch's key-generation messages, or the batch's refusal (rows 2 and 3).
-#[derive(Drop)]
+#[derive(Clone, Copy)]
 pub enum CheckBatch {
     Messages(u64),
     Refused(u8),
 }
 
 // The index stands beside the answer; it is empty where reading refuses.
-#[derive(Drop)]
+#[derive(Clone, Copy)]
 pub struct ReadIndex {
     pub outcome: CheckBatch,
     pub index: BatchIndex,
@@ -369,7 +371,7 @@ pub fn check_batch(s: &[u8]) -> CheckBatch
 }
 
 // Whether a batch has a contribution of a node, or the batch's refusal.
-#[derive(Drop)]
+#[derive(Clone, Copy)]
 pub enum HasContrib {
     Yes,
     No,

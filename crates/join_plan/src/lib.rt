@@ -1,4 +1,6 @@
 // mod.rs: the plan that a joining node starts from, read whole and written whole.
+#![tactic(auto)]
+
 ghost use Rattle.std.specs.Prelude.{◌≡◌, ◌≤◌, length};
 ghost use Rattle.bincode.specs.Read.{refuse, whole};
 ghost use Rattle.bincode.specs.Numbers.{fixed};
@@ -10,7 +12,7 @@ use change::ChangeState;
 use params::{Params, ReadParams};
 use pub_key_map::PubKeyMap;
 
-#[derive(Drop)]
+#[derive(Clone, Copy)]
 pub struct JoinPlan {
     pub era: u64,
     pub change: ChangeState,
@@ -37,7 +39,7 @@ impl JoinPlan {
     }
 }
 
-#[derive(Drop)]
+#[derive(Clone, Copy)]
 pub struct ReadPlan {
     pub step: Step,
     pub plan: JoinPlan,
@@ -116,7 +118,7 @@ pub fn plan_size(p: JoinPlan) -> usize
 }
 
 // How many bytes were written, or a refusal.
-#[derive(Drop)]
+#[derive(Clone, Copy)]
 pub enum Written {
     Upto(usize),
     Refused(u8),

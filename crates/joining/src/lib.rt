@@ -1,4 +1,6 @@
 // dynamic_honey_badger.rs: what `new` and `new_joining` check before a node starts. The Rust's asserts and errors are refusals here.
+#![tactic(auto)]
+
 ghost use Rattle.std.specs.Prelude.{◌≡◌};
 ghost use Rattle.bincode.specs.Sizes.{base};
 ghost use Rattle.join_plan.specs.JoinPlan.{plan_of};
@@ -12,21 +14,21 @@ use join_plan::JoinPlan;
 use params::{Params, ReadParams};
 use pub_key_map::PubKeyMap;
 
-#[derive(Drop)]
+#[derive(Clone, Copy)]
 pub enum StartOutcome {
     Accepted,
     Refused(u8),
 }
 
 // A plan that a node may start from, or a refusal; the plan beside it is then empty.
-#[derive(Drop)]
+#[derive(Clone, Copy)]
 pub struct Joining {
     pub outcome: StartOutcome,
     pub plan: JoinPlan,
 }
 
 // A map and parameters that a node may start from, or a refusal; those beside it are then empty.
-#[derive(Drop)]
+#[derive(Clone, Copy)]
 pub struct Starting {
     pub outcome: StartOutcome,
     pub pub_keys: PubKeyMap,

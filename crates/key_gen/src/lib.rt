@@ -1,4 +1,6 @@
 // sync_key_gen.rs: `SyncKeyGen`, the tracking of parts and acks.
+#![tactic(auto)]
+
 ghost use Rattle.std.specs.Prelude.{◌≡◌, true, not, ℕ, ◌≤◌, ◌<◌, length};
 ghost use Rattle.lists.specs.Lists.{found, lookup};
 ghost use Rattle.bincode.specs.Sizes.{base};
@@ -15,7 +17,7 @@ use pub_key_map::PubKeyMap;
 use sync_key_gen::{Ack, Part};
 
 // What is kept of one proposer, at its index: whether its part is recorded, the commitment, who acknowledged, whose value was good.
-#[derive(Drop)]
+#[derive(Clone, Copy)]
 pub struct Proposal {
     pub recorded: bool,
     pub commit: u64,
@@ -63,7 +65,7 @@ impl Proposal {
     }
 }
 
-#[derive(Drop)]
+#[derive(Clone, Copy)]
 pub struct KeyGen {
     pub our_id: u32,
     pub pub_keys: PubKeyMap,
@@ -71,14 +73,14 @@ pub struct KeyGen {
 }
 
 // What a key message did: nothing to tell, an ack is due for a proposer, or a fault of the signer.
-#[derive(Drop)]
+#[derive(Clone, Copy)]
 pub enum KeyOutcome {
     Quiet,
     AckDue(usize),
     Faulty(FaultKind),
 }
 
-#[derive(Drop)]
+#[derive(Clone, Copy)]
 pub struct KeyHandled {
     pub key_gen: KeyGen,
     pub outcome: KeyOutcome,

@@ -1,4 +1,6 @@
 // mod.rs: a key-generation message, and one signed with its era and signer.
+#![tactic(auto)]
+
 ghost use Rattle.std.specs.Prelude.{◌≡◌, ◌+◌, ◌*◌, ◌≤◌, length};
 ghost use Rattle.bincode.specs.Read.{refuse, map_read};
 ghost use Rattle.bincode.specs.Answer.{said64};
@@ -13,14 +15,14 @@ use bincode::{ReadU32, ReadU64, Step};
 use sync_key_gen::{Ack, Handles, Part};
 
 // A part with its commitment, or an ack with its proposer's index.
-#[derive(Drop)]
+#[derive(Clone, Copy)]
 pub enum KeyGenKind {
     Part(u64),
     Ack(u64),
 }
 
 // The rows or values stand beside the kind.
-#[derive(Drop)]
+#[derive(Clone, Copy)]
 pub struct KeyGenMessage {
     pub kind: KeyGenKind,
     pub handles: Handles,
@@ -87,7 +89,7 @@ fn same_headed(x: u64, xs: Handles, y: u64, ys: Handles) -> bool
 }
 
 // Era, signer, message, signature, as the Rust's tuple struct has them.
-#[derive(Drop)]
+#[derive(Clone, Copy)]
 pub struct SignedKeyGenMsg {
     pub era: u64,
     pub id: u32,
@@ -125,13 +127,13 @@ impl SignedKeyGenMsg {
     }
 }
 
-#[derive(Drop)]
+#[derive(Clone, Copy)]
 pub struct ReadMessage {
     pub step: Step,
     pub message: KeyGenMessage,
 }
 
-#[derive(Drop)]
+#[derive(Clone, Copy)]
 pub struct ReadSigned {
     pub step: Step,
     pub signed: SignedKeyGenMsg,
@@ -226,21 +228,21 @@ pub fn read_signed(s: &[u8], at: usize) -> ReadSigned
 }
 
 // Whether a message is a part, its commitment or proposer's index, and how many rows or values it has.
-#[derive(Drop)]
+#[derive(Clone, Copy)]
 pub struct Body {
     pub part: bool,
     pub first: u64,
     pub count: u64,
 }
 
-#[derive(Drop)]
+#[derive(Clone, Copy)]
 pub enum ReadBody {
     Value(Body, usize),
     Refused(u8),
 }
 
 // A signed message without its rows or values.
-#[derive(Drop)]
+#[derive(Clone, Copy)]
 pub struct MessageHead {
     pub era: u64,
     pub id: u32,
@@ -250,7 +252,7 @@ pub struct MessageHead {
     pub sig: u64,
 }
 
-#[derive(Drop)]
+#[derive(Clone, Copy)]
 pub struct ReadHead {
     pub step: Step,
     pub head: MessageHead,

@@ -1,4 +1,6 @@
 // mod.rs: `KeyGenState`, the running key generation, with the number of messages received from each sender.
+#![tactic(auto)]
+
 ghost use Rattle.std.specs.Prelude.{◌≡◌, ◌+◌, ◌≤◌, length, replicate};
 ghost use Rattle.lists.specs.Lists.{found};
 ghost use Rattle.bincode.specs.Sizes.{base};
@@ -12,7 +14,7 @@ use network_info::NodeIndex;
 use pub_key_map::PubKeyMap;
 
 // Counts by place: the nodes of the candidate map, then those of the current one.
-#[derive(Drop)]
+#[derive(Clone, Copy)]
 pub struct MessageCounts {
     pub counts: [u8; MessageCounts::LIMIT],
 }
@@ -30,7 +32,7 @@ impl MessageCounts {
 }
 
 // Whether key generation runs, and with what; else the other fields do not count.
-#[derive(Drop)]
+#[derive(Clone, Copy)]
 pub struct KeyGenState {
     pub running: bool,
     pub key_gen: KeyGen,
@@ -38,14 +40,14 @@ pub struct KeyGenState {
 }
 
 // The state with a sender's count raised, and that count.
-#[derive(Drop)]
+#[derive(Clone, Copy)]
 pub struct Counted {
     pub state: KeyGenState,
     pub count: u8,
 }
 
 // Counts with one raised, and that one.
-#[derive(Drop)]
+#[derive(Clone, Copy)]
 struct RaisedCounts {
     counts: MessageCounts,
     count: u8,

@@ -6,7 +6,7 @@ use mathlib.Core.List.{List, [], ◌∷◌, ◌++◌, append_assoc, append-nil, 
 use mathlib.Core.Bool.{Bool, true, false, cond}
 use native.Mathlib.Omega.{arith}
 use native.Mathlib.Numerals.{add-one}
-use lib.ListN.{length, take, drop, get_or, set, length-take, length-set, length_map}
+use lib.ListN.{length, take, drop, get_or, set, length-take, length-set, length-map}
 use lib.Seq.{take-suc-set, take-set-lt, drop-set-lt}
 use Rattle.lists.specs.Lists.{filter}
 use Rattle.lists.proofs.ListLaws.{rest_more, rest_none, take_live}
@@ -58,7 +58,7 @@ module _ {A B : Type 0} (f : A → B) (q : B → Bool) (xs : List A) (count limi
 
   pub keep_start : length xs ≡ limit → n ≡ length (map f (take count xs)) → n ≤ limit → Keeping xs 0 0
   keep_start l e h =
-      let live : take n xs ≡ take count xs = ap (λ (k : ℕ). take k xs) (e ∙ length_map (take count xs) f) ∙ take_live count xs in
+      let live : take n xs ≡ take count xs = ap (λ (k : ℕ). take k xs) (e ∙ length-map (take count xs) f) ∙ take_live count xs in
       (omega arith, omega arith, h, l, ap (filter (λ x. q (f x))) live)
 
   -- a turn: the element passes and is stored behind those kept, or it does not

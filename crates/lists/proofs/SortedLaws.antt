@@ -7,7 +7,7 @@ use mathlib.Core.Bool.{Bool, true, false, cond}
 use native.Mathlib.Omega.{arith}
 use native.Mathlib.Numerals.{add-one}
 use lib.Dec.{ltb, eqb}
-use lib.ListN.{length, take, drop, get_or, set, length-append, length-take, length-drop, get_or-append, length_map}
+use lib.ListN.{length, take, drop, get_or, set, length-append, length-take, length-drop, get_or-append, length-map}
 use lib.Seq.{set_at, take_at, take-suc, length-take-le, get_or-take, split_at, take-take, take-set-lt}
 use borrow.Author.Tests.{lt-ltb, le-ltb, ltb-true, eq-eqb, ne_eqb, eqb-true}
 use Rattle.lists.specs.Lists.{found, nothing, map_found, lookup, below, insert, has_key, insert_within, takes_place}
@@ -179,7 +179,7 @@ module _ {A B : Type 0} (f : A → B) (key : B → ℕ) where
 
   pub map_insert_within : (limit : ℕ) (a : A) (xs : List A) → map f (insert_within key_of limit a xs) ≡ insert_within key limit (f a) (map f xs)
   unfolding insert_within
-  map_insert_within limit a xs = rw (map_has_key (key (f a)) xs, length_map xs f) (go (has_key key (key (f a)) (map f xs)) (ltb (length xs) limit))
+  map_insert_within limit a xs = rw (map_has_key (key (f a)) xs, length-map xs f) (go (has_key key (key (f a)) (map f xs)) (ltb (length xs) limit))
     where
       go : (p q : Bool) → map f (cond p (insert key_of a xs) (cond q (insert key_of a xs) xs)) ≡ cond p (insert key (f a) (map f xs)) (cond q (insert key (f a) (map f xs)) (map f xs))
       go true q = map_insert a xs

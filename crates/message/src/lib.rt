@@ -1,4 +1,6 @@
 // mod.rs: a message of the protocol. Tag 0, `HoneyBadger`, is unknown here: the host keeps those.
+#![tactic(auto)]
+
 ghost use Rattle.std.specs.Prelude.{◌≡◌, ◌+◌, ◌*◌, ◌≤◌, length};
 ghost use Rattle.bincode.specs.Read.{refuse, whole};
 ghost use Rattle.bincode.specs.Sizes.{base};
@@ -11,14 +13,14 @@ use bincode::{ReadU32, ReadU64, Step};
 use key_gen_message::KeyGenMessage;
 use votes::SignedVote;
 
-#[derive(Drop)]
+#[derive(Clone, Copy)]
 pub enum MessageKind {
     KeyGen,
     SignedVote,
 }
 
 // A key-generation message with its era and signature, or a signed vote; what the kind has not is empty.
-#[derive(Drop)]
+#[derive(Clone, Copy)]
 pub struct Message {
     pub kind: MessageKind,
     pub era: u64,
@@ -53,7 +55,7 @@ impl Message {
     }
 }
 
-#[derive(Drop)]
+#[derive(Clone, Copy)]
 pub struct ReadMessage {
     pub step: Step,
     pub message: Message,

@@ -1,4 +1,6 @@
 // dynamic_honey_badger.rs, `key_gen_msg_buffer`: key-generation messages that wait for a batch, in order of arrival.
+#![tactic(auto)]
+
 ghost use Rattle.std.specs.Prelude.{◌≡◌, ◌≤◌, length};
 ghost use Rattle.lists.specs.Lists.{at_place};
 ghost use Rattle.bincode.specs.Sizes.{base};
@@ -8,27 +10,27 @@ ghost use Rattle.message_store.specs.MessageStore.{store_of, no_store, pushed, p
 use key_gen_message::SignedKeyGenMsg;
 
 // Places from `count` on do not count.
-#[derive(Drop)]
+#[derive(Clone, Copy)]
 pub struct MessageStore {
     pub count: usize,
     pub messages: [SignedKeyGenMsg; MessageStore::LIMIT],
 }
 
-#[derive(Drop)]
+#[derive(Clone, Copy)]
 pub enum PushOutcome {
     Stored,
     Refused(u8),
 }
 
 // The store after a message came; the very one that was given where it is refused.
-#[derive(Drop)]
+#[derive(Clone, Copy)]
 pub struct Pushed {
     pub store: MessageStore,
     pub outcome: PushOutcome,
 }
 
 // The message at a place, or that there is none; the message beside it is then empty.
-#[derive(Drop)]
+#[derive(Clone, Copy)]
 pub struct StoredMessage {
     pub found: bool,
     pub message: SignedKeyGenMsg,

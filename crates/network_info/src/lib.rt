@@ -1,4 +1,6 @@
 // network_info.rs: who belongs to the network, the index of a node by ascending id, and f.
+#![tactic(auto)]
+
 ghost use Rattle.std.specs.Prelude.{◌≡◌, ◌≤◌, length};
 ghost use Rattle.bincode.specs.Sizes.{base};
 ghost use Rattle.util.specs.MaxFaulty.{max_faulty};
@@ -8,14 +10,14 @@ ghost use Rattle.network_info.specs.NetworkInfo.{node_index, said_index, is_memb
 use pub_key_map::PubKeyMap;
 
 // A node's index, or that it is not in the map.
-#[derive(Drop)]
+#[derive(Clone, Copy)]
 pub enum NodeIndex {
     At(usize),
     Nothing,
 }
 
 // A node's key, or that it is not in the map. Key 0 is no key (01, stand-ins), but a map may hold anything here.
-#[derive(Drop)]
+#[derive(Clone, Copy)]
 pub enum NodeKey {
     Key(u64),
     Nothing,

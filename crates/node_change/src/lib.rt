@@ -1,4 +1,6 @@
 // dynamic_honey_badger.rs: the maps that `vote_to_add` and `vote_to_remove` propose, as the Rust's `insert` and `remove` give them.
+#![tactic(auto)]
+
 ghost use Rattle.std.specs.Prelude.{◌≡◌, ◌∷◌, ◌++◌, ◌≤◌, ◌<◌, length, take, drop};
 ghost use Rattle.lists.specs.Lists.{below};
 ghost use Rattle.bincode.specs.Sizes.{base};

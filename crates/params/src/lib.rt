@@ -1,4 +1,6 @@
 // params.rs: the parameters of a network; and from epoch_state.rs the strategy, as plain data.
+#![tactic(auto)]
+
 ghost use Rattle.std.specs.Prelude.{◌≡◌, ◌≤◌, length};
 ghost use Rattle.bincode.specs.Read.{number_of, whole};
 ghost use Rattle.bincode.specs.Numbers.{fixed};
@@ -8,7 +10,7 @@ ghost use Rattle.params.specs.Params.{no_params, read_strategy, said_strategy, s
 use bincode::{ReadU32, ReadU64};
 use honey_badger::{EncryptionSchedule, ReadSchedule};
 
-#[derive(Drop)]
+#[derive(Clone, Copy)]
 pub enum SubsetHandlingStrategy {
     Incremental,
     AllAtEnd,
@@ -26,7 +28,7 @@ impl SubsetHandlingStrategy {
     }
 }
 
-#[derive(Drop)]
+#[derive(Clone, Copy)]
 pub struct Params {
     pub max_future_epochs: u64,
     pub subset_handling_strategy: SubsetHandlingStrategy,
@@ -46,13 +48,13 @@ impl Params {
     }
 }
 
-#[derive(Drop)]
+#[derive(Clone, Copy)]
 pub enum ReadStrategy {
     Value(SubsetHandlingStrategy, usize),
     Refused(u8),
 }
 
-#[derive(Drop)]
+#[derive(Clone, Copy)]
 pub enum ReadParams {
     Value(Params, usize),
     Refused(u8),

@@ -7,7 +7,7 @@ use mathlib.Core.Bool.{Bool, true, false, cond}
 use native.Mathlib.Omega.{arith}
 use native.Mathlib.Numerals.{add-one}
 use lib.Dec.{ltb}
-use lib.ListN.{length, take, get_or, set, replicate, length-take, length_map, length-replicate, get_or-replicate, drop_of_length-le}
+use lib.ListN.{length, take, get_or, set, replicate, length-take, length-map, length-replicate, get_or-replicate, drop_of_length-le}
 use lib.Seq.{take_all, take-suc, take-take, length-take-le, get_or-take}
 use borrow.Author.Tests.{ltb-true, ltb-false}
 use Rattle.filled.specs.Filled.{filled, shorter}
@@ -103,7 +103,7 @@ same_for_all f g k s (y ∷ ys) = λ j. s y j ∷ same_for_all f g k s ys j
 module _ (era : ℕ) (ds : List DueItem) (n : ℕ) (count : length ds ≡ n) (acks : ds ≡ map (ack_item era) (map due_index ds)) where
   alike : (f : DueItem → ℕ) (k : ℕ) → ((i : ℕ) → f (ack_item era i) ≡ k) → replicate n k ≡ map f ds
   alike f k s =
-      sym (ap (map f) acks ∙ same_for_all f (ack_item era) k s (map due_index ds) ∙ ap (λ (c : ℕ). replicate c k) (length_map ds due_index ∙ count))
+      sym (ap (map f) acks ∙ same_for_all f (ack_item era) k s (map due_index ds) ∙ ap (λ (c : ℕ). replicate c k) (length-map ds due_index ∙ count))
 
   pub acks_in : (from : List ℕ) → take n from ≡ map due_index ds → (kinds kinds' indices indices' eras eras' : List ℕ) → kinds' ≡ filled (replicate n 1) kinds
       → indices' ≡ filled (take n from) indices → eras' ≡ filled (replicate n era) eras → DueIn ds kinds kinds' indices indices' eras eras'
@@ -116,7 +116,7 @@ module _ (era : ℕ) (ds : List DueItem) (n : ℕ) (count : length ds ≡ n) (ac
 -- one more due item, stored behind those that stand there
 module _ (ds : List DueItem) (d : DueItem) (n : ℕ) (count : length ds ≡ n) where
   behind : (f : DueItem → ℕ) (old list after : List ℕ) → list ≡ filled (map f ds) old → after ≡ set list n (f d) → after ≡ filled (map f (ds ++ (d ∷ []))) old
-  behind f old list after e q = rw (map-append f ds (d ∷ []), q, e) (filled_next (map f ds) old n (f d) (length_map ds f ∙ count))
+  behind f old list after e q = rw (map-append f ds (d ∷ []), q, e) (filled_next (map f ds) old n (f d) (length-map ds f ∙ count))
 
   pub due_behind : (kinds kinds' kinds'' indices indices' indices'' eras eras' eras'' : List ℕ) → DueIn ds kinds kinds' indices indices' eras eras'
       → DueAt d n kinds' kinds'' indices' indices'' eras' eras'' → DueIn (ds ++ (d ∷ [])) kinds kinds'' indices indices'' eras eras''

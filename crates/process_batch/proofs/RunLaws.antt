@@ -4,7 +4,7 @@ use Prim.Native.Nat.{ℕ, ◌≤◌}
 use mathlib.Core.Path.{◌≡◌, refl, sym, ap, ◌∙◌, subst}
 use mathlib.Core.List.{[], map}
 use native.Mathlib.Omega.{arith}
-use lib.ListN.{length, take, length_map}
+use lib.ListN.{length, take, length-map}
 use Rattle.bincode.specs.Sizes.{base}
 use Rattle.filled.specs.Numbers.{fault_id, kind_number, due_index}
 use Rattle.message_store.specs.MessageStore.{store_of}
@@ -68,10 +68,10 @@ module _ (s : DynamicHoneyBadger) (b : BatchCall) where
         let m = g.holds.messages in
         record {
           by_id = ap (take (length work_of.faults)) f.by_id
-              ∙ taken_filled (map fault_id work_of.faults) l₀.ids (length work_of.faults) (length_map work_of.faults fault_id) (omega (arith, f.count, few, i));
+              ∙ taken_filled (map fault_id work_of.faults) l₀.ids (length work_of.faults) (length-map work_of.faults fault_id) (omega (arith, f.count, few, i));
           by_kind = ap (take (length work_of.faults)) f.by_kind
-              ∙ taken_filled (map kind_number work_of.faults) l₀.kinds (length work_of.faults) (length_map work_of.faults kind_number) (omega (arith, f.count, few, k));
+              ∙ taken_filled (map kind_number work_of.faults) l₀.kinds (length work_of.faults) (length-map work_of.faults kind_number) (omega (arith, f.count, few, k));
           by_index = ap (take (length work_of.due)) m.by_index
-              ∙ taken_filled (map due_index work_of.due) l₀.indices (length work_of.due) (length_map work_of.due due_index) (omega (arith, m.count, owed, d));
+              ∙ taken_filled (map due_index work_of.due) l₀.indices (length work_of.due) (length-map work_of.due due_index) (omega (arith, m.count, owed, d));
           all_acks = m.all_acks;
         }

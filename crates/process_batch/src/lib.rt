@@ -1,6 +1,8 @@
 // dynamic_honey_badger.rs, `process_output`: the batch call as a host makes it. Faults and due items go into lists that it lends, one a field. A refused call
 // writes nothing: faults and due items stand in lists of its own until row 7 is known. The state is named in one function alone, and only the parts that a batch
 // changed are put back into it, since each hand that a large value passes through is a copy.
+#![tactic(auto)]
+
 ghost use Rattle.std.specs.Prelude.{◌≡◌, true, false, cond, ◌+◌, ◌^◌, ◌≤◌, ◌<◌, ltb};
 ghost use Rattle.bincode.specs.Sizes.{base};
 ghost use Rattle.pub_key_map.specs.PubKeyMap.{nodes_of};
@@ -33,14 +35,14 @@ use vote_counter::VoteCounter;
 
 mod copying;
 
-#[derive(Drop)]
+#[derive(Clone, Copy)]
 pub enum BatchOutcome {
     Reported,
     Refused(u8),
 }
 
 // A report with what stands beside it, faults and due items by their numbers; where the batch was refused, all is empty.
-#[derive(Drop)]
+#[derive(Clone, Copy)]
 pub struct Report {
     pub outcome: BatchOutcome,
     pub batch: Batch,
@@ -51,7 +53,7 @@ pub struct Report {
 }
 
 // All rows but 7, and steps 2 to 5: the batch's epoch or the refusal met first, where its contributions stand, and what they came to.
-#[derive(Drop)]
+#[derive(Clone, Copy)]
 pub struct Worked {
     pub opening: Opening,
     pub index: BatchIndex,
@@ -60,7 +62,7 @@ pub struct Worked {
 
 // The report, and what the store and the lent lists need beside it: whether an era began, the era behind the batch, and how many of
 // the due items are acks; a part may stand behind them.
-#[derive(Drop)]
+#[derive(Clone, Copy)]
 pub struct Told {
     pub report: Report,
     pub restarted: bool,
@@ -69,7 +71,7 @@ pub struct Told {
 }
 
 // The parts of the state after steps 6 to 8, but the store, with what is told.
-#[derive(Drop)]
+#[derive(Clone, Copy)]
 pub struct Settled {
     pub params: Params,
     pub vote_counter: VoteCounter,
@@ -78,7 +80,7 @@ pub struct Settled {
 }
 
 // The state after a batch, and the report; where the batch was refused, the state given and all else empty.
-#[derive(Drop)]
+#[derive(Clone, Copy)]
 pub struct Processed {
     pub state: DynamicHoneyBadger,
     pub outcome: BatchOutcome,

@@ -1,4 +1,6 @@
 // dynamic_honey_badger.rs, `process_output`, before its loop: rows 1 to 4, 15 and 5. One pass reads the batch, refuses, and notes where its contributions stand.
+#![tactic(auto)]
+
 ghost use Rattle.std.specs.Prelude.{◌≡◌, [], ◌+◌, not, ◌||◌, eqb, length};
 ghost use Rattle.bincode.specs.Sizes.{base};
 ghost use Rattle.internal_contrib.specs.InternalContrib.{read_batch};
@@ -14,14 +16,14 @@ use fault_log::FaultLog;
 use internal_contrib::{BatchIndex, CheckBatch};
 
 // The batch's epoch, or the refusal met first.
-#[derive(Drop)]
+#[derive(Clone, Copy)]
 pub enum Opening {
     Epoch(u64),
     Refused(u8),
 }
 
 // With an epoch, where the contributions stand; beside a refusal the index notes none.
-#[derive(Drop)]
+#[derive(Clone, Copy)]
 pub struct Opened {
     pub opening: Opening,
     pub index: BatchIndex,

@@ -1,4 +1,6 @@
 // A map from node id to key (the Rust's `PubKeyMap`): a count, then each id with its key, ids strictly ascending and no key 0.
+#![tactic(auto)]
+
 ghost use Rattle.std.specs.Prelude.{◌≡◌, [], ◌+◌, ◌*◌, ◌≤◌, length};
 ghost use Rattle.bincode.specs.Read.{refuse, number_of, whole};
 ghost use Rattle.bincode.specs.Numbers.{fixed};
@@ -10,7 +12,7 @@ ghost use Rattle.pub_key_map.specs.PubKeyMap.{nodes_of, map_held, same_node, sam
 use bincode::{ReadU32, ReadU64, Step};
 
 // 01: a station's id and key.
-#[derive(Drop)]
+#[derive(Clone, Copy)]
 pub struct Node {
     pub id: u32,
     pub key: u64,
@@ -37,7 +39,7 @@ impl Node {
 }
 
 // Ids ascend; places from `count` on hold no node.
-#[derive(Drop)]
+#[derive(Clone, Copy)]
 pub struct PubKeyMap {
     pub count: usize,
     pub nodes: [Node; PubKeyMap::LIMIT],
@@ -96,7 +98,7 @@ impl PubKeyMap {
     }
 }
 
-#[derive(Drop)]
+#[derive(Clone, Copy)]
 pub enum ReadNode {
     Value(Node, usize),
     Refused(u8),
@@ -114,7 +116,7 @@ impl ReadNode {
 }
 
 // An enum cannot hold an array, so the map stands beside the answer. It is empty where reading refuses.
-#[derive(Drop)]
+#[derive(Clone, Copy)]
 pub struct ReadMap {
     pub step: Step,
     pub map: PubKeyMap,

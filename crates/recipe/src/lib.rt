@@ -1,4 +1,6 @@
 // sync_key_gen.rs: what `generate` would add up, as a recipe for the host.
+#![tactic(auto)]
+
 ghost use Rattle.std.specs.Prelude.{◌≡◌, ◌≤◌, length};
 ghost use Rattle.bincode.specs.Sizes.{base};
 ghost use Rattle.key_gen.specs.KeyGen.{indices, key_gen_of};
@@ -9,20 +11,20 @@ use key_gen::{KeyGen, Proposal};
 use pub_key_map::PubKeyMap;
 
 // One proposer, at its index: whether its part is complete, and whose values are used.
-#[derive(Drop)]
+#[derive(Clone, Copy)]
 pub struct Share {
     pub complete: bool,
     pub used: [bool; PubKeyMap::LIMIT],
 }
 
-#[derive(Drop)]
+#[derive(Clone, Copy)]
 pub enum RecipeKind {
     Observer,
     Share,
     Missing,
 }
 
-#[derive(Drop)]
+#[derive(Clone, Copy)]
 pub struct Recipe {
     pub kind: RecipeKind,
     pub shares: [Share; PubKeyMap::LIMIT],

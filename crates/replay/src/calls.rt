@@ -13,7 +13,7 @@ use process_batch::BatchOutcome;
 use votes::SignedVote;
 
 // A replica once one has started, the last report once there is one, and how many bytes the last answer has.
-#[derive(Drop)]
+#[derive(Clone, Copy)]
 pub struct Host {
     pub started: bool,
     pub replica: DynamicHoneyBadger,

@@ -55,7 +55,7 @@ pub(crate) fn find(s: &[u8], from: usize, b: u8) -> usize
 }
 
 // Where the fields of a line start and end, and how many there are. No call has more than seven, so an eighth ends the search.
-#[derive(Drop)]
+#[derive(Clone, Copy)]
 pub struct Fields {
     pub count: usize,
     pub starts: [usize; 8],
@@ -122,7 +122,7 @@ pub(crate) fn equal(a: &[u8], b: &[u8]) -> bool {
     true
 }
 
-#[derive(Drop)]
+#[derive(Clone, Copy)]
 pub enum Parsed {
     Value(u64),
     Bad,

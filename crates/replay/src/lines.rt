@@ -17,7 +17,7 @@ pub const INPUT: usize = 160000;
 
 // How far the input is taken: a line from `at` to `end`, which is `whole` or searched so far; bytes that were read reach to `filled`; there is
 // no `more` once the input has ended.
-#[derive(Drop)]
+#[derive(Clone, Copy)]
 pub struct Taken {
     pub at: usize,
     pub end: usize,
@@ -27,7 +27,7 @@ pub struct Taken {
 }
 
 // What a read gave.
-#[derive(Drop)]
+#[derive(Clone, Copy)]
 pub struct Got {
     pub failed: bool,
     pub count: usize,

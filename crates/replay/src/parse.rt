@@ -9,7 +9,7 @@ use crate::fields::{
 pub const MOST_LINE: usize = 140000;
 
 // new ID KEY ERA MAP PARAMS
-#[derive(Drop)]
+#[derive(Clone, Copy)]
 pub struct New {
     pub id: u32,
     pub key: u64,
@@ -19,7 +19,7 @@ pub struct New {
 }
 
 // join ID KEY PLAN DUE_PLACES
-#[derive(Drop)]
+#[derive(Clone, Copy)]
 pub struct Join {
     pub id: u32,
     pub key: u64,
@@ -28,7 +28,7 @@ pub struct Join {
 }
 
 // batch ERA INNER BATCH VERDICTS FAULT_PLACES DUE_PLACES
-#[derive(Drop)]
+#[derive(Clone, Copy)]
 pub struct Agreed {
     pub era: u64,
     pub inner: u64,
@@ -39,7 +39,7 @@ pub struct Agreed {
 }
 
 // An own vote: for the change of bytes, for a node added, for a node removed.
-#[derive(Drop)]
+#[derive(Clone, Copy)]
 pub enum OwnVote {
     For(usize),
     Add(u32, u64),
@@ -47,7 +47,7 @@ pub enum OwnVote {
 }
 
 // The calls that ask the replica and change nothing; those that need none; and lines that are no call.
-#[derive(Drop)]
+#[derive(Clone, Copy)]
 pub enum Question {
     Plan(u64, usize),
     Stored(usize),
@@ -64,7 +64,7 @@ pub enum Question {
     Skipped,
 }
 
-#[derive(Drop)]
+#[derive(Clone, Copy)]
 pub enum Call {
     New(New),
     Join(Join),
@@ -76,14 +76,14 @@ pub enum Call {
 }
 
 // The numbers of a line's fields behind the word; of bytes, where they end.
-#[derive(Drop)]
+#[derive(Clone, Copy)]
 pub struct Values {
     pub good: bool,
     pub numbers: [u64; 6],
 }
 
 // A form's number, and where in the list of forms its letters are.
-#[derive(Drop)]
+#[derive(Clone, Copy)]
 pub struct Form {
     pub number: u64,
     pub start: usize,

@@ -1,4 +1,6 @@
 // votes.rs: signed votes by ascending voter, as the Rust's `BTreeMap` keeps them: a sorted array with a count.
+#![tactic(auto)]
+
 ghost use Rattle.std.specs.Prelude.{◌≡◌, ◌≤◌, length};
 ghost use Rattle.lists.specs.Lists.{lookup, below, has_key, insert_within, takes_place, map_found};
 ghost use Rattle.bincode.specs.Sizes.{base};
@@ -8,21 +10,21 @@ ghost use Rattle.signed_votes.specs.SignedVotes.{held, votes_of, no_votes, voter
 use votes::SignedVote;
 
 // Places from `count` on do not count.
-#[derive(Drop)]
+#[derive(Clone, Copy)]
 pub struct SignedVotes {
     pub count: usize,
     pub votes: [SignedVote; SignedVotes::LIMIT],
 }
 
 // Where a voter's vote belongs, and whether it has one there.
-#[derive(Drop)]
+#[derive(Clone, Copy)]
 struct Place {
     at: usize,
     taken: bool,
 }
 
 // A vote's number, or that the voter has none.
-#[derive(Drop)]
+#[derive(Clone, Copy)]
 pub enum VoteNum {
     Num(u64),
     Nothing,

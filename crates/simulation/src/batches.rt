@@ -10,7 +10,7 @@ use votes::{SignedVote, Vote};
 const ACKED: u64 = 4;
 
 // A batch or a message: the first `len` bytes.
-#[derive(Drop)]
+#[derive(Clone, Copy)]
 pub struct Written {
     pub bytes: [u8; Written::LIMIT],
     pub len: usize,

@@ -14,7 +14,7 @@ use vote_counter::VoteCounter;
 use votes::SignedVote;
 
 // What differs first.
-#[derive(Drop)]
+#[derive(Clone, Copy)]
 pub enum Difference {
     Nothing,
     Refusal,

@@ -13,7 +13,7 @@ use process_batch::{BatchOutcome, Processed};
 
 // Places from `count` on hold no replica. The report is the first replica's of the last batch,
 // and counts if that was not refused; `agree` says whether all answered the last batch alike, `going` whether all that was to be written was.
-#[derive(Drop)]
+#[derive(Clone, Copy)]
 pub struct Fleet {
     pub count: usize,
     pub states: [DynamicHoneyBadger; Fleet::LIMIT],

@@ -8,7 +8,7 @@ use fault_log::FaultLog;
 use process_batch::Processed;
 
 // Faults as they stand in the lists that a call filled: ids, and kinds by their numbers. Places from `count` on do not count.
-#[derive(Drop)]
+#[derive(Clone, Copy)]
 pub struct Faults {
     pub count: usize,
     pub ids: [u32; FaultLog::LIMIT],
@@ -49,7 +49,7 @@ impl Faults {
 }
 
 // What a call gave, and the faults that it put into its lists.
-#[derive(Drop)]
+#[derive(Clone, Copy)]
 pub struct Called {
     pub processed: Processed,
     pub faults: Faults,

@@ -1,4 +1,6 @@
 // A season of several replicas in one process: they take the same batches with verdicts of their own, and are compared after each.
+#![tactic(auto)]
+
 mod batches;
 mod compare;
 mod fleet;

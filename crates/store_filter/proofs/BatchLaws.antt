@@ -5,7 +5,7 @@ use mathlib.Core.Path.{◌≡◌, refl, sym, ap, ◌∙◌, subst}
 use mathlib.Core.List.{List, [], ◌∷◌, ◌++◌, map, map-append, append_assoc, append-nil}
 use native.Mathlib.Omega.{arith}
 use lib.Dec.{lit<}
-use lib.ListN.{length, length-append, length_map}
+use lib.ListN.{length, length-append, length-map}
 use Rattle.lists.specs.Lists.{filter}
 use Rattle.bincode.specs.Read.{value}
 use Rattle.bincode.specs.Items.{foldl, items, plain, stay, many}
@@ -57,7 +57,7 @@ module _ (s : List ℕ) where
   batch_listed (k ∷ ks) (x ∷ xs) es p h =
       let new : List Entry = entries_from s k.message_count (k.messages + 8) in
       let e : map message_in (entries_from s k.message_count (k.messages + 8)) ≡ x.messages = entries_read k.message_count (k.messages + 8) x.messages p.0.0 p.0.1 in
-      let l : length (entries_from s k.message_count (k.messages + 8)) ≡ length x.messages = sym (length_map new message_in) ∙ ap length e in
+      let l : length (entries_from s k.message_count (k.messages + 8)) ≡ length x.messages = sym (length-map new message_in) ∙ ap length e in
       let b : length es + length x.messages + length (messages_in xs) ≤ base.items = omega (arith, length-append x.messages (messages_in xs), h) in
       let all : foldl listed es new ≡ es ++ new = list_all es new (omega (arith, b, l)) in
       ap (λ (y : List Entry). map message_in (foldl (contrib_listed s) y ks)) all

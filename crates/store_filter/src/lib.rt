@@ -1,5 +1,7 @@
 // dynamic_honey_badger.rs, `process_output`: `key_gen_msg_buffer.retain`, once for all messages of a batch.
 // The batch's messages are listed by small numbers first, so that a stored message is compared as a whole only with one of the same signer and number.
+#![tactic(auto)]
+
 ghost use Rattle.std.specs.Prelude.{◌≡◌, List, map, not, ℕ, ◌≤◌};
 ghost use Rattle.bincode.specs.Read.{value};
 ghost use Rattle.bincode.specs.Items.{foldl};

@@ -1,4 +1,6 @@
 // sync_key_gen.rs: the messages of distributed key generation, a part and an ack. Rows and values are handles (01, stand-ins).
+#![tactic(auto)]
+
 ghost use Rattle.std.specs.Prelude.{◌≡◌, [], ◌+◌, ◌*◌, ◌≤◌, length};
 ghost use Rattle.bincode.specs.Read.{refuse};
 ghost use Rattle.bincode.specs.Sizes.{base};
@@ -9,7 +11,7 @@ ghost use Rattle.sync_key_gen.specs.SyncKeyGen.{read_part, part_answer, part_byt
 use bincode::{ReadU64, Step};
 
 // Encrypted rows or values, one for each node; places from `count` on hold 0.
-#[derive(Drop)]
+#[derive(Clone, Copy)]
 pub struct Handles {
     pub count: usize,
     pub values: [u64; Handles::LIMIT],
@@ -65,32 +67,32 @@ impl Handles {
 }
 
 // A proposer's commitment and an encrypted row for each node.
-#[derive(Drop)]
+#[derive(Clone, Copy)]
 pub struct Part {
     pub commit: u64,
     pub rows: Handles,
 }
 
 // The proposer's index and an encrypted value for each node.
-#[derive(Drop)]
+#[derive(Clone, Copy)]
 pub struct Ack {
     pub proposer: u64,
     pub values: Handles,
 }
 
-#[derive(Drop)]
+#[derive(Clone, Copy)]
 pub struct ReadHandles {
     pub step: Step,
     pub handles: Handles,
 }
 
-#[derive(Drop)]
+#[derive(Clone, Copy)]
 pub struct ReadPart {
     pub step: Step,
     pub part: Part,
 }
 
-#[derive(Drop)]
+#[derive(Clone, Copy)]
 pub struct ReadAck {
     pub step: Step,
     pub ack: Ack,

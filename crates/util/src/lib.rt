@@ -1,4 +1,6 @@
 // util.rs: the number of faulty nodes that a network tolerates.
+#![tactic(auto)]
+
 ghost use Rattle.std.specs.Prelude.{◌≡◌};
 ghost use Rattle.util.specs.MaxFaulty.{max_faulty};
 

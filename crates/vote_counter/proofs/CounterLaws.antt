@@ -5,7 +5,7 @@ use native.Mathlib.Omega.{arith}
 use mathlib.Core.Path.{◌≡◌, refl, sym, ap, ◌∙◌}
 use mathlib.Core.List.{List, map}
 use mathlib.Core.Logic.{◌↔◌}
-use lib.ListN.{length, take, get_or, length_map, get_or-map}
+use lib.ListN.{length, take, get_or, length-map, get_or-map}
 use Rattle.lists.specs.Lists.{Found, found, nothing, map_found}
 use Rattle.util.specs.MaxFaulty.{max_faulty}
 use Rattle.change.specs.Change.{ChangeOf, same_change}
@@ -44,7 +44,7 @@ pub winner_first : (c : CounterOf) (i : ℕ)
 unfolding winner_at
 winner_first c i =
     let s = stops_first same_change (max_faulty (length c.nodes)) no_signed.vote.change (choices c) i in
-    let n = length_map c.committed (λ v. v.vote.change) in (
+    let n = length-map c.committed (λ v. v.vote.change) in (
       λ e. let w = s.0 e in (omega (arith, n, w.0), rw (choice_is c i) at w.1, λ j k. rw (choice_is c j) at (w.2 j k)),
       λ w. s.1 (omega (arith, n, w.0), rw (choice_is c i) w.1, λ j k. rw (choice_is c j) (w.2 j k)),
     )

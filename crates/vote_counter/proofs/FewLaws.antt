@@ -4,7 +4,7 @@ use Prim.Native.Nat.{◌≤◌}
 use mathlib.Core.Path.{◌≡◌}
 use native.Mathlib.Omega.{arith}
 use mathlib.Core.List.{map}
-use lib.ListN.{length, length_map}
+use lib.ListN.{length, length-map}
 use Rattle.lists.specs.Lists.{nothing}
 use Rattle.util.specs.MaxFaulty.{max_faulty}
 use Rattle.change.specs.Change.{same_change}
@@ -14,8 +14,8 @@ use Rattle.vote_counter.specs.VoteCounter.{CounterOf, compute_winner, winner_at}
 module _ (c : CounterOf) (few : length c.committed ≤ max_faulty (length c.nodes)) where
   pub few_votes : compute_winner c ≡ nothing
   unfolding compute_winner
-  few_votes = few_nobody same_change (max_faulty (length c.nodes)) (map (λ v. v.vote.change) c.committed) (omega (arith, length_map c.committed (λ v. v.vote.change)))
+  few_votes = few_nobody same_change (max_faulty (length c.nodes)) (map (λ v. v.vote.change) c.committed) (omega (arith, length-map c.committed (λ v. v.vote.change)))
 
   pub few_places : winner_at c ≡ nothing
   unfolding winner_at
-  few_places = few_nowhere same_change (max_faulty (length c.nodes)) (map (λ v. v.vote.change) c.committed) (omega (arith, length_map c.committed (λ v. v.vote.change)))
+  few_places = few_nowhere same_change (max_faulty (length c.nodes)) (map (λ v. v.vote.change) c.committed) (omega (arith, length-map c.committed (λ v. v.vote.change)))

@@ -1,4 +1,6 @@
 // votes.rs: the counter of pending and committed votes of one era, and the board of the committed ones.
+#![tactic(auto)]
+
 ghost use Rattle.std.specs.Prelude.{◌≡◌, ℕ, ◌<◌, length};
 ghost use Rattle.lists.specs.Lists.{found, map_found, at_place};
 ghost use Rattle.bincode.specs.Sizes.{base};
@@ -21,7 +23,7 @@ use pub_key_map::PubKeyMap;
 use signed_votes::{SignedVotes, VoteNum};
 use votes::{SignedVote, Vote};
 
-#[derive(Drop)]
+#[derive(Clone, Copy)]
 pub struct VoteCounter {
     pub our_id: u32,
     pub secret_key: u64,
@@ -33,21 +35,21 @@ pub struct VoteCounter {
 }
 
 // What a vote did: it was stored, it changed nothing, or it is a fault.
-#[derive(Drop)]
+#[derive(Clone, Copy)]
 pub enum VoteOutcome {
     Stored,
     Nothing,
     Faulty(FaultKind),
 }
 
-#[derive(Drop)]
+#[derive(Clone, Copy)]
 pub struct VoteAdded {
     pub counter: VoteCounter,
     pub outcome: VoteOutcome,
 }
 
 // The committed votes after one more, whether it took a place among them, and what it did.
-#[derive(Drop)]
+#[derive(Clone, Copy)]
 pub struct VoteCommitted {
     pub votes: SignedVotes,
     pub taken: bool,
@@ -55,14 +57,14 @@ pub struct VoteCommitted {
 }
 
 // Whether an own vote was signed, or row 11.
-#[derive(Drop)]
+#[derive(Clone, Copy)]
 pub enum SignOutcome {
     Signed,
     Refused(u8),
 }
 
 // The vote stands beside the outcome; where signing was refused it is empty, and the counter is the one given.
-#[derive(Drop)]
+#[derive(Clone, Copy)]
 pub struct VoteSigned {
     pub counter: VoteCounter,
     pub outcome: SignOutcome,
@@ -70,14 +72,14 @@ pub struct VoteSigned {
 }
 
 // A pending vote that is handed out, or that there is none at the place; the vote beside it is then empty.
-#[derive(Drop)]
+#[derive(Clone, Copy)]
 pub struct PendingVote {
     pub found: bool,
     pub vote: SignedVote,
 }
 
 // The place of the winning voter among the committed votes.
-#[derive(Drop)]
+#[derive(Clone, Copy)]
 pub enum Winner {
     Voter(usize),
     Nobody,

@@ -1,4 +1,6 @@
 // votes.rs: a vote for a change, and a vote with its voter and signature.
+#![tactic(auto)]
+
 ghost use Rattle.std.specs.Prelude.{◌≡◌, ◌+◌, ◌*◌, ◌≤◌, length};
 ghost use Rattle.bincode.specs.Read.{refuse};
 ghost use Rattle.bincode.specs.Sizes.{base};
@@ -11,7 +13,7 @@ use bincode::{ReadU32, ReadU64, Step};
 use change::{Change, ChangeKind};
 use pub_key_map::PubKeyMap;
 
-#[derive(Drop)]
+#[derive(Clone, Copy)]
 pub struct Vote {
     pub change: Change,
     pub era: u64,
@@ -35,7 +37,7 @@ impl Vote {
 }
 
 // The signature is the handle of the key under which the host verified it, 0 if none (01, stand-ins).
-#[derive(Drop)]
+#[derive(Clone, Copy)]
 pub struct SignedVote {
     pub vote: Vote,
     pub voter: u32,
@@ -63,13 +65,13 @@ impl SignedVote {
     }
 }
 
-#[derive(Drop)]
+#[derive(Clone, Copy)]
 pub struct ReadVote {
     pub step: Step,
     pub vote: Vote,
 }
 
-#[derive(Drop)]
+#[derive(Clone, Copy)]
 pub struct ReadSignedVote {
     pub step: Step,
     pub signed: SignedVote,
@@ -136,7 +138,7 @@ pub fn read_signed_vote(s: &[u8], at: usize) -> ReadSignedVote
 }
 
 // A signed vote without its change.
-#[derive(Drop)]
+#[derive(Clone, Copy)]
 pub struct VoteHead {
     pub era: u64,
     pub num: u64,
@@ -144,7 +146,7 @@ pub struct VoteHead {
     pub sig: u64,
 }
 
-#[derive(Drop)]
+#[derive(Clone, Copy)]
 pub struct ReadVoteHead {
     pub step: Step,
     pub head: VoteHead,

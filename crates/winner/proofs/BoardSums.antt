@@ -6,7 +6,7 @@ use mathlib.Core.List.{List, [], ◌∷◌, ◌++◌, map, map-map}
 use mathlib.Core.Bool.{Bool, true, false, cond}
 use native.Mathlib.Omega.{arith}
 use lib.Dec.{eqb}
-use lib.ListN.{length, length_map}
+use lib.ListN.{length, length-map}
 use borrow.Author.Tests.{eqb-true, eqb-false, ne_eqb}
 use Rattle.lists.proofs.ListLaws.{false_true}
 use Rattle.bincode.specs.Stands.{All}
@@ -25,9 +25,9 @@ module _ {A : Type 0} (eq : A → A → Bool) where
       omega (
         arith,
         length_in_order (λ (r : Row A). r.count) (λ (r : Row A). r.lowest) [] (map (row_for eq vs) xs),
-        length_map xs (row_for eq vs),
+        length-map xs (row_for eq vs),
         first_few eq [] (choices vs),
-        length_map vs (λ (v : Cast A). v.choice),
+        length-map vs (λ (v : Cast A). v.choice),
       )
 
   -- how many of the choices are such that nobody before has them
@@ -113,5 +113,5 @@ module _ {A : Type 0} (eq : A → A → Bool) where
           ap sum same,
           first_sum [] (choices vs),
           fresh_all (choices vs),
-          length_map vs (λ (v : Cast A). v.choice),
+          length-map vs (λ (v : Cast A). v.choice),
         )

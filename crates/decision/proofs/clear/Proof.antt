@@ -3,7 +3,7 @@ use Prim.Native.Nat.{◌-◌, ◌≤◌}
 use mathlib.Core.Path.{◌≡◌, refl, sym, ap, ◌∙◌}
 use native.Mathlib.Omega.{arith}
 use mathlib.Core.List.{List}
-use lib.ListN.{length, length_map, length-set}
+use lib.ListN.{length, length-map, length-set}
 use Rattle.bincode.specs.Sizes.{base}
 use Rattle.key_gen.specs.declared.Proposal.{Proposal}
 use Rattle.key_gen.specs.declared.KeyGen.{KeyGen}
@@ -20,7 +20,7 @@ decreases-loop from to g₀ i₀ g i = to - i
 
 -- the array's length
 long : (c : tie.Start invariant-loop decreases-loop) → length c.args.t1.proposals ≡ base.nodes
-long c = simp length_map at c.well-formed.0.1.1.1.1.0.1.0.1
+long c = simp length-map at c.well-formed.0.1.1.1.1.0.1.0.1
 
 loop-holds : tie.Need-loop-init invariant-loop decreases-loop
 loop-holds c = (refl, long c, c.requires.0)

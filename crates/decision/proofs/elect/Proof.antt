@@ -1,7 +1,7 @@
 use mathlib.Core.Path.{◌≡◌, sym, ap, ◌∙◌}
 use Prim.Native.Nat.{◌<◌}
 use native.Mathlib.Omega.{arith}
-use lib.ListN.{length, length_map}
+use lib.ListN.{length, length-map}
 use Rattle.lists.specs.Lists.{found, map_found}
 use Rattle.bincode.specs.Sizes.{base}
 use Rattle.votes.specs.Votes.{SignedVoteOf, signed_of, no_signed}
@@ -23,7 +23,7 @@ place c = c.before.before.before.compute-winner.ensures.1 _ (ap said_winner c.be
 within : (c : tie.After-known-told) → c.before.i.given.0.0 < base.nodes
 within c =
     let x = c.before.before.before.before.before.before.before.before.before.args.counter.committed in
-    let l : length x.votes ≡ base.nodes = simp length_map at c.before.before.before.before.before.before.before.before.before.well-formed.0.1.1.1.1.1.1.1.0.1.1.1.0.1.0.1 in
+    let l : length x.votes ≡ base.nodes = simp length-map at c.before.before.before.before.before.before.before.before.before.well-formed.0.1.1.1.1.1.1.1.0.1.1.1.0.1.0.1 in
     omega (arith, (place_within signed_of x.votes x.count _ (place c)).1)
 
 len-requires : tie.Need-len-requires

@@ -1,6 +1,6 @@
 use borrow.Author.Rules.{rules}
 use mathlib.Core.Path.{◌≡◌}
-use lib.ListN.{length, length_map}
+use lib.ListN.{length, length-map}
 use Rattle.bincode.specs.Sizes.{base}
 use Rattle.decision.proofs.ClearLaws.{clear_held}
 use Rattle.decision.proofs.renew.Statement.{statement}
@@ -8,7 +8,7 @@ use Rattle.decision.proofs.renew.Tie as tie
 
 -- the array's length
 long : (c : tie.Start) → length c.args.g.proposals ≡ base.nodes
-long c = simp length_map at c.well-formed.0.1.1.1.1.0.1.0.1
+long c = simp length-map at c.well-formed.0.1.1.1.1.0.1.0.1
 
 len-requires : tie.Need-len-requires
 len-requires c κs = search rules

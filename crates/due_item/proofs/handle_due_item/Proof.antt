@@ -1,7 +1,7 @@
 use borrow.Author.Rules.{rules}
 use mathlib.Core.Bool.{Bool}
 use mathlib.Core.Path.{◌≡◌, refl, sym, ap, ◌∙◌, subst}
-use lib.ListN.{length, length_map}
+use lib.ListN.{length, length-map}
 use Rattle.bincode.specs.Sizes.{base}
 use Rattle.key_gen_message.specs.KeyGenMessage.{signed_of}
 use Rattle.message_store.specs.MessageStore.{store_of}
@@ -16,7 +16,7 @@ use Rattle.due_item.proofs.handle_due_item.Tie as tie
 
 -- the array of stored messages has as many places as the store may hold
 places : (c : tie.After-fate) → length c.before.before.before.before.before.args.state.store.messages ≡ base.store
-places c = simp length_map at c.before.before.before.before.before.well-formed.0.1.1.1.1.1.0.1.1.1.0.1.0.1
+places c = simp length-map at c.before.before.before.before.before.well-formed.0.1.1.1.1.1.0.1.1.1.0.1.0.1
 
 -- what was decided holds of this state
 decided : (c : tie.After-fate) (b : Bool) → c.fate.result.stored ≡ b

@@ -1,7 +1,7 @@
 use borrow.Author.Rules.{rules}
 use mathlib.Core.Path.{◌≡◌, sym, ap, ◌∙◌}
 use native.Mathlib.Omega.{arith}
-use lib.ListN.{length, length_map, length-take}
+use lib.ListN.{length, length-map, length-take}
 use Rattle.lists.specs.Lists.{found, nothing}
 use Rattle.bincode.specs.Sizes.{base}
 use Rattle.pub_key_map.specs.PubKeyMap.{nodes_of}
@@ -40,26 +40,26 @@ enum-told-2 c = search rules
 returns : tie.Need-returns
 returns c =
     let m = c.before.before.before.before.before.before.before.before.args.current in
-    let l : length m.nodes ≡ base.nodes = simp length_map at c.before.before.before.before.before.before.before.before.well-formed.1.0.1.1.1.0.1.0.1 in
-    (place_past base _ _ _ (place_none base _ _ _ (not-candidate c.before.before.before) (sym c.before.before.node-index2.ensures ∙ ap said_index c.enum-told2.given.1)), simp length-take (omega arith), simp length_map at c.before.before.before.before.before.before.before.before.well-formed.0.1.1.1.1.0.1.1.0.1.0.1)
+    let l : length m.nodes ≡ base.nodes = simp length-map at c.before.before.before.before.before.before.before.before.well-formed.1.0.1.1.1.0.1.0.1 in
+    (place_past base _ _ _ (place_none base _ _ _ (not-candidate c.before.before.before) (sym c.before.before.node-index2.ensures ∙ ap said_index c.enum-told2.given.1)), simp length-take (omega arith), simp length-map at c.before.before.before.before.before.before.before.before.well-formed.0.1.1.1.1.0.1.1.0.1.0.1)
 
 add-result : tie.Need-overflow-add-result
 add-result c =
     let m = c.before.before.before.before.before.before.before.before.before.args.current in
-    let l : length m.nodes ≡ base.nodes = simp length_map at c.before.before.before.before.before.before.before.before.before.well-formed.1.0.1.1.1.0.1.0.1 in
+    let l : length m.nodes ≡ base.nodes = simp length-map at c.before.before.before.before.before.before.before.before.before.well-formed.1.0.1.1.1.0.1.0.1 in
     omega (arith, (index_within m.nodes m.count _ _ (in-current c.before)).0)
 
 returns-2 : tie.Need-returns-2
 returns-2 c =
     let m = c.before.before.before.before.before.before.before.before.before.args.current in
-    let l : length m.nodes ≡ base.nodes = simp length_map at c.before.before.before.before.before.before.before.before.before.well-formed.1.0.1.1.1.0.1.0.1 in
-    (place_there base _ _ _ _ (place_current base _ _ _ (not-candidate c.before.before.before.before) _ (in-current c.before)), simp length-take (omega arith), simp length_map at c.before.before.before.before.before.before.before.before.before.well-formed.0.1.1.1.1.0.1.1.0.1.0.1)
+    let l : length m.nodes ≡ base.nodes = simp length-map at c.before.before.before.before.before.before.before.before.before.well-formed.1.0.1.1.1.0.1.0.1 in
+    (place_there base _ _ _ _ (place_current base _ _ _ (not-candidate c.before.before.before.before) _ (in-current c.before)), simp length-take (omega arith), simp length-map at c.before.before.before.before.before.before.before.before.before.well-formed.0.1.1.1.1.0.1.1.0.1.0.1)
 
 returns-3 : tie.Need-returns-3
 returns-3 c =
     let m = c.before.before.before.before.before.before.args.current in
-    let l : length m.nodes ≡ base.nodes = simp length_map at c.before.before.before.before.before.before.well-formed.1.0.1.1.1.0.1.0.1 in
-    (place_there base _ _ _ _ (place_candidate base _ _ _ _ (sym c.before.before.before.node-index.ensures ∙ ap said_index c.before.i.given.1)), simp length-take (omega arith), simp length_map at c.before.before.before.before.before.before.well-formed.0.1.1.1.1.0.1.1.0.1.0.1)
+    let l : length m.nodes ≡ base.nodes = simp length-map at c.before.before.before.before.before.before.well-formed.1.0.1.1.1.0.1.0.1 in
+    (place_there base _ _ _ _ (place_candidate base _ _ _ _ (sym c.before.before.before.node-index.ensures ∙ ap said_index c.before.i.given.1)), simp length-take (omega arith), simp length-map at c.before.before.before.before.before.before.well-formed.0.1.1.1.1.0.1.1.0.1.0.1)
 
 pub sender-place-spec : {M : Type 1} → statement M
 sender-place-spec =

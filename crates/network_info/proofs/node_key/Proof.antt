@@ -2,7 +2,7 @@ use borrow.Author.Rules.{rules}
 use mathlib.Core.Path.{◌≡◌, sym, ap, ◌∙◌}
 use Prim.Native.Nat.{◌<◌}
 use native.Mathlib.Omega.{arith}
-use lib.ListN.{length, get_or, length_map}
+use lib.ListN.{length, get_or, length-map}
 use Rattle.bincode.specs.Sizes.{base}
 use Rattle.pub_key_map.specs.PubKeyMap.{nodes_of, no_node}
 use Rattle.lists.specs.Lists.{found}
@@ -16,7 +16,7 @@ within : (c : tie.After-i) → let m = c.before.before.before.args.t1 in
     (c.i.given.0.0 < base.nodes) × (key_of (nodes_of m) c.before.before.before.args.id ≡ found (get_or m.nodes c.i.given.0.0 no_node).key)
 within c =
     let m = c.before.before.before.args.t1 in
-    let l : length m.nodes ≡ base.nodes = simp length_map at c.before.before.before.well-formed.0.1.1.1.0.1.0.1 in
+    let l : length m.nodes ≡ base.nodes = simp length-map at c.before.before.before.well-formed.0.1.1.1.0.1.0.1 in
     let r = index_within m.nodes m.count _ c.before.before.before.args.id (sym c.before.before.node-index.ensures ∙ ap said_index c.i.given.1) in
     (omega (arith, r.0), r.1)
 

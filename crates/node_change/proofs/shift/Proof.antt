@@ -2,7 +2,7 @@ use borrow.Author.Rules.{rules}
 use mathlib.Core.Path.{◌≡◌}
 use Prim.Native.Nat.{◌≤◌, ◌<◌}
 use native.Mathlib.Omega.{arith}
-use lib.ListN.{length, length_map, length-set}
+use lib.ListN.{length, length-map, length-set}
 use Rattle.lists.proofs.SortedLaws.{Shifted, shift_start, shift_down, shift_done}
 use Rattle.bincode.specs.Sizes.{base}
 use Rattle.node_change.proofs.shift.Statement.{statement}
@@ -17,7 +17,7 @@ decreases-loop at n x map₀ j₀ map j = j
 
 loop-holds : tie.Need-loop-init invariant-loop decreases-loop
 loop-holds c =
-    let l : length c.args.t1.nodes ≡ base.nodes = simp length_map at c.well-formed.0.1.1.1.0.1.0.1 in
+    let l : length c.args.t1.nodes ≡ base.nodes = simp length-map at c.well-formed.0.1.1.1.0.1.0.1 in
     let h : c.args.n < length c.args.t1.nodes = omega (arith, c.requires.1) in
     (c.requires.0, search rules, c.requires.1, l, h, shift_start c.args.t1.nodes c.args.n h c.args.x)
 

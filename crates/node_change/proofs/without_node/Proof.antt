@@ -4,7 +4,7 @@ use mathlib.Core.Bool.{not}
 use mathlib.Core.Logic.{⊎_elim}
 use mathlib.Core.Path.{◌≡◌, sym, ap, ◌∙◌}
 use Prim.Native.Nat.{◌-◌}
-use lib.ListN.{length, length_map}
+use lib.ListN.{length, length-map}
 use Rattle.lists.proofs.KeptLaws.{Keeping, keep_start, keep_yes, keep_no, keep_held}
 use Rattle.bincode.specs.Sizes.{base}
 use Rattle.pub_key_map.specs.declared.Node.{Node}
@@ -26,13 +26,13 @@ decreases-loop id map₀ n kept₀ i₀ map kept i = n - i
 
 -- the array has as many places as a map may have
 places : (c : tie.After-len invariant-loop decreases-loop) → length c.before.args.t1.nodes ≡ base.nodes
-places c = simp length_map at c.before.well-formed.0.1.1.1.0.1.0.1
+places c = simp length-map at c.before.well-formed.0.1.1.1.0.1.0.1
 
 len-requires : tie.Need-len-requires invariant-loop decreases-loop
 len-requires c κs = search rules
 
 loop-holds : tie.Need-loop-init invariant-loop decreases-loop
-loop-holds c = keep_start itself (is_not c.before.args.id) c.before.args.t1.nodes c.before.args.t1.count base.nodes c.len.result (places c) (c.len.ensures.0 ∙ sym (length_map (nodes_of c.before.args.t1) itself)) c.len.ensures.1
+loop-holds c = keep_start itself (is_not c.before.args.id) c.before.args.t1.nodes c.before.args.t1.count base.nodes c.len.result (places c) (c.len.ensures.0 ∙ sym (length-map (nodes_of c.before.args.t1) itself)) c.len.ensures.1
 
 mul-x : tie.Need-overflow-mul-x invariant-loop decreases-loop
 mul-x c = search rules

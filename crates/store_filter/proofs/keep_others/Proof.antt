@@ -4,7 +4,7 @@ use mathlib.Core.Path.{◌≡◌, sym, ◌∙◌}
 use mathlib.Core.Logic.{⊎_elim}
 use mathlib.Core.List.{List, map}
 use native.Mathlib.Omega.{arith}
-use lib.ListN.{length, length-set, length_map}
+use lib.ListN.{length, length-set, length-map}
 use Rattle.lists.proofs.KeptLaws.{Keeping, keep_start, keep_yes, keep_no, keep_end}
 use Rattle.bincode.specs.Sizes.{base}
 use Rattle.key_gen_message.specs.KeyGenMessage.{signed_of}
@@ -27,7 +27,7 @@ len-requires c κs = search rules
 loop-holds : tie.Need-loop-init invariant-loop decreases-loop
 loop-holds c =
     let t = c.before.before.before.before.before.args.t1 in
-    let l : length t.messages ≡ base.store = simp length_map at c.before.before.before.before.before.well-formed.0.1.1.1.0.1.0.1 in (
+    let l : length t.messages ≡ base.store = simp length-map at c.before.before.before.before.before.well-formed.0.1.1.1.0.1.0.1 in (
       omega arith,
       omega arith,
       c.len.ensures.1,

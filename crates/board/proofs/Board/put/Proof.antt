@@ -3,7 +3,7 @@ use mathlib.Core.Path.{◌≡◌, sym, ap, ◌∙◌}
 use Prim.Native.Nat.{ℕ, ◌≤◌, ◌<◌}
 use native.Mathlib.Omega.{arith}
 use mathlib.Core.List.{◌∷◌, ◌++◌}
-use lib.ListN.{length, take, drop, length_map, length-set}
+use lib.ListN.{length, take, drop, length-map, length-set}
 use Rattle.lists.proofs.ListLaws.{take_live}
 use Rattle.lists.proofs.SortedLaws.{Shifted, shift_start, shift_down, shift_done}
 use Rattle.bincode.specs.Sizes.{base}
@@ -30,7 +30,7 @@ loop-holds c =
     let t = c.before.before.args.t1 in
     let n = c.before.len.ensures.0 in
     let few : c.before.len.result < base.nodes = omega (arith, n, c.before.before.requires) in
-    let l : length t.rows ≡ base.nodes = simp length_map at c.before.before.well-formed.0.1.1.1.0.1.0.1 in
+    let l : length t.rows ≡ base.nodes = simp length-map at c.before.before.well-formed.0.1.1.1.0.1.0.1 in
     let h : c.before.len.result < length t.rows = omega (arith, few) in
     (omega (arith, n, c.place-of.ensures.1), search rules, few, l, h, shift_start t.rows _ h c.before.before.args.row)
 

@@ -4,7 +4,7 @@ use mathlib.Core.Path.{◌≡◌, refl, sym, ap, ◌∙◌}
 use mathlib.Core.List.{List}
 use mathlib.Core.Bool.{not, cond}
 use native.Mathlib.Omega.{arith}
-use lib.ListN.{length, length-set, length_map}
+use lib.ListN.{length, length-set, length-map}
 use Rattle.lists.specs.Lists.{found, nothing}
 use Rattle.bincode.specs.Items.{plain, stay}
 use Rattle.bincode.specs.Sizes.{base}
@@ -52,7 +52,7 @@ loop-holds c =
       q.0,
       q.1,
       (refl, refl, refl),
-      (simp length_map at g.1.1.1.0.1.1.1.1.0.1.0.1, refl, refl),
+      (simp length-map at g.1.1.1.0.1.1.1.1.0.1.0.1, refl, refl),
       λ w x y z h. (w, h, reread_start (plain (read_signed_key_gen_msg base _)) stay (committed_message base _) _ tt _ _ tt refl),
     )
 

@@ -1,6 +1,6 @@
 use borrow.Author.Rules.{rules}
 use mathlib.Core.Path.{◌≡◌}
-use lib.ListN.{length, length_map}
+use lib.ListN.{length, length-map}
 use Rattle.lists.proofs.ListLaws.{append_held, append_full}
 use Rattle.bincode.specs.Sizes.{base}
 use Rattle.due.proofs.DueList.append.Statement.{statement}
@@ -8,7 +8,7 @@ use Rattle.due.proofs.DueList.append.Tie as tie
 
 -- the array has as many places as the list may have items
 places : (c : tie.After-len) → length c.before.args.t1.items ≡ base.due
-places c = simp length_map at c.before.well-formed.0.1.1.1.0.1.0.1
+places c = simp length-map at c.before.well-formed.0.1.1.1.0.1.0.1
 
 len-requires : tie.Need-len-requires
 len-requires c κs = search rules

@@ -1,6 +1,6 @@
 use native.Mathlib.Omega.{arith}
 use mathlib.Core.Path.{◌≡◌, sym}
-use lib.ListN.{length, length_map}
+use lib.ListN.{length, length-map}
 use Rattle.lists.proofs.ListLaws.{length_live}
 use Rattle.bincode.specs.Sizes.{base}
 use Rattle.due.proofs.DueList.len.Statement.{statement}
@@ -9,13 +9,13 @@ use Rattle.due.proofs.DueList.len.Tie as tie
 returns : tie.Need-returns
 returns c =
     let m = c.before.args.self in
-    let l : length m.items ≡ base.due = simp length_map at c.before.well-formed.0.1.1.1.0.1.0.1 in
+    let l : length m.items ≡ base.due = simp length-map at c.before.well-formed.0.1.1.1.0.1.0.1 in
     (sym ((length_live m.items m.count base.due l).0 (omega arith)), omega arith)
 
 returns-2 : tie.Need-returns-2
 returns-2 c =
     let m = c.before.args.self in
-    let l : length m.items ≡ base.due = simp length_map at c.before.well-formed.0.1.1.1.0.1.0.1 in
+    let l : length m.items ≡ base.due = simp length-map at c.before.well-formed.0.1.1.1.0.1.0.1 in
     (sym ((length_live m.items m.count base.due l).1 (omega arith)), omega arith)
 
 pub len_spec : {M : Type 1} → statement M

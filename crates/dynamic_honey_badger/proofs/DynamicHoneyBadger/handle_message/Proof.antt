@@ -1,6 +1,6 @@
 use borrow.Author.Rules.{rules}
 use mathlib.Core.Path.{◌≡◌, refl, sym, ap, ◌∙◌, subst}
-use lib.ListN.{length, length_map}
+use lib.ListN.{length, length-map}
 use Rattle.bincode.specs.Read.{whole}
 use Rattle.bincode.specs.Sizes.{base}
 use Rattle.vote_counter.specs.VoteCounter.{counter_of}
@@ -19,7 +19,7 @@ use Rattle.dynamic_honey_badger.proofs.DynamicHoneyBadger.handle_message.Tie as 
 
 -- the array of stored messages has as many places as the store may hold
 places : (c : tie.After-judge) → length c.before.before.before.before.before.before.before.args.self.store.messages ≡ base.store
-places c = simp length_map at c.before.before.before.before.before.before.before.well-formed.0.1.1.1.1.1.0.1.1.1.0.1.0.1
+places c = simp length-map at c.before.before.before.before.before.before.before.well-formed.0.1.1.1.1.1.0.1.1.1.0.1.0.1
 
 -- what was judged, by its task
 abbrev Told : (c : tie.After-judge) → Task → Type 0

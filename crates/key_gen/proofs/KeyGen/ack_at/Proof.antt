@@ -2,7 +2,7 @@ use borrow.Author.Rules.{rules}
 use mathlib.Core.Path.{◌≡◌, sym, ◌∙◌}
 use mathlib.Core.Bool.{cond}
 use native.Mathlib.Omega.{arith}
-use lib.ListN.{length, get_or, length_map}
+use lib.ListN.{length, get_or, length-map}
 use Rattle.lists.specs.Lists.{found, nothing, lookup}
 use Rattle.lists.proofs.ListLaws.{cond_yes, cond_no}
 use Rattle.bincode.specs.Sizes.{base}
@@ -16,7 +16,7 @@ stands : (c : tie.After-p) → let s = c.before in
     lookup by_proposer (parts_of s.args.t1.proposals) s.args.i ≡ cond (get_or s.args.t1.proposals s.args.i blank).recorded (found (proposal_at s.args.i (get_or s.args.t1.proposals s.args.i blank))) nothing
 stands c =
     let s = c.before in
-    let l : length s.args.t1.proposals ≡ base.nodes = simp length_map at s.well-formed.0.1.1.1.1.0.1.0.1 in
+    let l : length s.args.t1.proposals ≡ base.nodes = simp length-map at s.well-formed.0.1.1.1.1.0.1.0.1 in
     part_lookup s.args.t1.proposals s.args.i (omega arith)
 
 mul-p : tie.Need-overflow-mul-p

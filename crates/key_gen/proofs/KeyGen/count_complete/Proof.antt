@@ -3,7 +3,7 @@ use mathlib.Core.Path.{◌≡◌, refl}
 use mathlib.Core.Logic.{⊎_elim}
 use Prim.Native.Nat.{◌≤◌, ◌-◌, ◌+◌}
 use native.Mathlib.Omega.{arith}
-use lib.ListN.{length, drop, length_map}
+use lib.ListN.{length, drop, length-map}
 use Rattle.lists.specs.Lists.{marked, filter}
 use Rattle.bincode.specs.Sizes.{base}
 use Rattle.key_gen.specs.KeyGen.{key_gen_of, is_recorded, proposal_at, threshold, count_complete}
@@ -20,7 +20,7 @@ decreases-loop self t count₀ i₀ count i = base.nodes - i
 
 -- the array's length
 long : (c : tie.Start invariant-loop decreases-loop) → length c.args.t1.proposals ≡ base.nodes
-long c = simp length_map at c.well-formed.0.1.1.1.1.0.1.0.1
+long c = simp length-map at c.well-formed.0.1.1.1.1.0.1.0.1
 
 threshold-requires : tie.Need-threshold-requires invariant-loop decreases-loop
 threshold-requires c κs = search rules

@@ -2,7 +2,7 @@ use borrow.Author.Rules.{rules}
 use mathlib.Core.Path.{◌≡◌, sym, ap, ◌∙◌}
 use native.Mathlib.Omega.{arith}
 use borrow.Author.Tests.{eq-eqb, ne_eqb}
-use lib.ListN.{length, length_map}
+use lib.ListN.{length, length-map}
 use Rattle.lists.specs.Lists.{found}
 use Rattle.bincode.specs.Sizes.{base}
 use Rattle.pub_key_map.specs.PubKeyMap.{nodes_of}
@@ -51,7 +51,7 @@ returns-4 : tie.Need-returns-4
 unfolding handle_ack ack_of_index
 returns-4 c =
     let s = c.before.before.before.before.before.before.before.before.before.before.before in
-    let l : length s.args.self.proposals ≡ base.nodes = simp length_map at s.well-formed.0.1.1.1.1.0.1.0.1 in
+    let l : length s.args.self.proposals ≡ base.nodes = simp length-map at s.well-formed.0.1.1.1.1.0.1.0.1 in
     rw (signer-at c.before.before.before.before.before.before.before, eq-eqb _ _ (sym c.before.before.before.before.len.ensures.0 ∙ c.before.before.if1.false ∙ c.before.before.before.len2.ensures.0), part_past s.args.self.proposals s.args.ack.proposer (omega arith))
 
 pub handle-ack-spec : {M : Type 1} → statement M

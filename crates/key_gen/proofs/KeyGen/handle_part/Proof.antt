@@ -5,7 +5,7 @@ use Prim.Native.Nat.{◌<◌}
 use native.Mathlib.Omega.{arith}
 use borrow.Author.Tests.{eq-eqb, ne_eqb}
 use lib.Dec.{eqb}
-use lib.ListN.{length, get_or, length_map}
+use lib.ListN.{length, get_or, length-map}
 use Rattle.lists.specs.Lists.{found, nothing, lookup}
 use Rattle.lists.proofs.ListLaws.{cond_yes, cond_no}
 use Rattle.bincode.specs.Sizes.{base}
@@ -29,7 +29,7 @@ within : (c : tie.Else1) → let s = c.before.before.before.before.before.before
     × (lookup by_proposer (parts_of s.args.t1.proposals) i ≡ cond (get_or s.args.t1.proposals i blank).recorded (found (proposal_at i (get_or s.args.t1.proposals i blank))) nothing)
 within c =
     let s = c.before.before.before.before.before.before.before.before.before in
-    let l : length s.args.t1.proposals ≡ base.nodes = simp length_map at s.well-formed.0.1.1.1.1.0.1.0.1 in
+    let l : length s.args.t1.proposals ≡ base.nodes = simp length-map at s.well-formed.0.1.1.1.1.0.1.0.1 in
     let h : c.before.before.before.before.before.i.given.0.0 < base.nodes = omega (arith, (index_found _ 0 _ _ (signer-at c.before.before.before.before.before)).1, c.before.len2.ensures.0, c.before.len2.ensures.1) in
     (eq-eqb _ _ (sym c.before.before.len.ensures.0 ∙ c.if1.false ∙ c.before.len2.ensures.0), h, part_lookup s.args.t1.proposals _ (omega arith))
 

@@ -3,7 +3,7 @@ use mathlib.Core.Path.{◌≡◌, sym, ap, ◌∙◌}
 use mathlib.Core.Bool.{cond}
 use Prim.Native.Nat.{◌<◌}
 use native.Mathlib.Omega.{arith}
-use lib.ListN.{length, get_or, length_map}
+use lib.ListN.{length, get_or, length-map}
 use Rattle.lists.specs.Lists.{found, nothing, lookup}
 use Rattle.lists.proofs.ListLaws.{cond_yes, cond_no}
 use Rattle.bincode.specs.Sizes.{base}
@@ -23,8 +23,8 @@ within : (c : tie.After-known-told) → let s = c.before.before.before.before.be
 within c =
     let s = c.before.before.before.before.before.before in
     let m = s.args.t1.pub_keys in
-    let l : length s.args.t1.proposals ≡ base.nodes = simp length_map at s.well-formed.0.1.1.1.1.0.1.0.1 in
-    let k : length m.nodes ≡ base.nodes = simp length_map at s.well-formed.0.1.1.1.0.1.1.1.0.1.0.1 in
+    let l : length s.args.t1.proposals ≡ base.nodes = simp length-map at s.well-formed.0.1.1.1.1.0.1.0.1 in
+    let k : length m.nodes ≡ base.nodes = simp length-map at s.well-formed.0.1.1.1.0.1.1.1.0.1.0.1 in
     let e = sym c.before.before.before.node-index.ensures ∙ ap said_index c.before.i.given.1 in
     let h : c.before.i.given.0.0 < base.nodes = omega (arith, (index_within m.nodes m.count _ s.args.proposer e).0) in
     (e, h, part_lookup s.args.t1.proposals _ (omega arith))

@@ -3,7 +3,7 @@ use mathlib.Core.Path.{◌≡◌, refl, sym, ◌∙◌}
 use mathlib.Core.Bool.{true, false}
 use native.Mathlib.Omega.{arith}
 use lib.Dec.{eqb}
-use lib.ListN.{length, length_map}
+use lib.ListN.{length, length-map}
 use Rattle.bincode.specs.Sizes.{base}
 use Rattle.key_gen.specs.KeyGen.{key_gen_of}
 use Rattle.key_gen.proofs.KeyGenLaws.{part_acked, told_ack}
@@ -12,7 +12,7 @@ use Rattle.key_gen.proofs.KeyGen.record_ack.Tie as tie
 
 -- the array's length
 long : (c : tie.Start) → length c.args.t1.proposals ≡ base.nodes
-long c = simp length_map at c.well-formed.0.1.1.1.1.0.1.0.1
+long c = simp length-map at c.well-formed.0.1.1.1.1.0.1.0.1
 
 observes-requires : tie.Need-observes-requires
 observes-requires c κs = search rules

@@ -2,7 +2,7 @@ use borrow.Author.Rules.{rules}
 use mathlib.Core.Bool.{true≢false}
 use mathlib.Core.Path.{sym}
 use native.Mathlib.Omega.{arith}
-use lib.ListN.{length_map}
+use lib.ListN.{length-map}
 use Rattle.key_gen_message.specs.KeyGenMessage.{signed_of}
 use Rattle.message_store.specs.MessageStore.{held, store_of}
 use Rattle.lists.proofs.PlaceLaws.{at_held, at_past}
@@ -21,7 +21,7 @@ element-copy-out-t10 c = search rules
 returns : tie.Need-returns
 returns c =
     let s = c.before.before.before.args.t1 in
-    (sym (at_held signed_of s.messages s.count c.before.before.before.args.place _ (omega (arith, c.before.before.len.ensures.0, length_map (held s) signed_of, c.before.if1.true))), λ e. absurd (true≢false e))
+    (sym (at_held signed_of s.messages s.count c.before.before.before.args.place _ (omega (arith, c.before.before.len.ensures.0, length-map (held s) signed_of, c.before.if1.true))), λ e. absurd (true≢false e))
 
 empty-requires : tie.Need-empty-requires
 empty-requires c κs = search rules

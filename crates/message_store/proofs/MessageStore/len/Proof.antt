@@ -1,6 +1,6 @@
 use native.Mathlib.Omega.{arith}
 use mathlib.Core.Path.{◌≡◌, sym, ◌∙◌}
-use lib.ListN.{length, length_map}
+use lib.ListN.{length, length-map}
 use Rattle.lists.proofs.ListLaws.{length_live}
 use Rattle.bincode.specs.Sizes.{base}
 use Rattle.key_gen_message.specs.KeyGenMessage.{signed_of}
@@ -11,14 +11,14 @@ use Rattle.message_store.proofs.MessageStore.len.Tie as tie
 returns : tie.Need-returns
 returns c =
     let m = c.before.args.self in
-    let l : length m.messages ≡ base.store = simp length_map at c.before.well-formed.0.1.1.1.0.1.0.1 in
-    (sym (length_map (held m) signed_of ∙ (length_live m.messages m.count base.store l).0 (omega arith)), omega arith)
+    let l : length m.messages ≡ base.store = simp length-map at c.before.well-formed.0.1.1.1.0.1.0.1 in
+    (sym (length-map (held m) signed_of ∙ (length_live m.messages m.count base.store l).0 (omega arith)), omega arith)
 
 returns-2 : tie.Need-returns-2
 returns-2 c =
     let m = c.before.args.self in
-    let l : length m.messages ≡ base.store = simp length_map at c.before.well-formed.0.1.1.1.0.1.0.1 in
-    (sym (length_map (held m) signed_of ∙ (length_live m.messages m.count base.store l).1 (omega arith)), omega arith)
+    let l : length m.messages ≡ base.store = simp length-map at c.before.well-formed.0.1.1.1.0.1.0.1 in
+    (sym (length-map (held m) signed_of ∙ (length_live m.messages m.count base.store l).1 (omega arith)), omega arith)
 
 pub len_spec : {M : Type 1} → statement M
 len_spec = tie.close (tie.spec returns returns-2)

@@ -2,7 +2,7 @@ use borrow.Author.Rules.{rules}
 use mathlib.Core.Path.{◌≡◌, refl, sym, ap, ◌∙◌}
 use mathlib.Core.List.{◌∷◌, [], map, map-append}
 use native.Mathlib.Omega.{arith}
-use lib.ListN.{length, length_map}
+use lib.ListN.{length, length-map}
 use Rattle.lists.proofs.ListLaws.{append_live}
 use Rattle.bincode.specs.Sizes.{base}
 use Rattle.bincode.specs.Outcome.{done}
@@ -14,11 +14,11 @@ use Rattle.message_store.proofs.MessageStore.push.Tie as tie
 
 -- the array has as many places as the store may hold
 places : (c : tie.After-len) → length c.before.args.t1.messages ≡ base.store
-places c = simp length_map at c.before.well-formed.0.1.1.1.0.1.0.1
+places c = simp length-map at c.before.well-formed.0.1.1.1.0.1.0.1
 
 -- the count that `len` gives
 counted : (c : tie.After-len) → c.len.result ≡ length (held c.before.args.t1)
-counted c = c.len.ensures.0 ∙ length_map (held c.before.args.t1) signed_of
+counted c = c.len.ensures.0 ∙ length-map (held c.before.args.t1) signed_of
 
 len-requires : tie.Need-len-requires
 len-requires c κs = search rules

@@ -3,7 +3,7 @@ use mathlib.Core.Path.{◌≡◌, sym, ap, ◌∙◌}
 use mathlib.Core.Logic.{⊎_elim}
 use mathlib.Core.Bool.{not}
 use Prim.Native.Nat.{◌-◌}
-use lib.ListN.{length, length_map}
+use lib.ListN.{length, length-map}
 use Rattle.lists.proofs.KeptLaws.{Keeping, keep_start, keep_yes, keep_no, keep_end}
 use Rattle.bincode.specs.Sizes.{base}
 use Rattle.key_gen_message.specs.KeyGenMessage.{signed_of}
@@ -20,7 +20,7 @@ decreases-loop m self₀ n kept₀ i₀ self kept i = n - i
 
 -- the array has as many places as the store may hold
 places : (c : tie.After-len invariant-loop decreases-loop) → length c.before.args.t1.messages ≡ base.store
-places c = simp length_map at c.before.well-formed.0.1.1.1.0.1.0.1
+places c = simp length-map at c.before.well-formed.0.1.1.1.0.1.0.1
 
 len-requires : tie.Need-len-requires invariant-loop decreases-loop
 len-requires c κs = search rules

@@ -5,7 +5,7 @@ use mathlib.Core.List.{map}
 use mathlib.Core.Bool.{◌||◌}
 use Prim.Native.Nat.{◌≤◌, ◌-◌}
 use native.Mathlib.Omega.{arith}
-use lib.ListN.{length, drop, length_map}
+use lib.ListN.{length, drop, length-map}
 use Rattle.util.specs.MaxFaulty.{max_faulty}
 use Rattle.bincode.specs.Sizes.{base}
 use Rattle.key_gen.proofs.KeyGenLaws.{blank}
@@ -27,7 +27,7 @@ decreases-loop g m t shares₀ short₀ i₀ shares short i = base.nodes - i
 
 -- the array's length
 long : (c : tie.Start invariant-loop decreases-loop) → length c.args.t1.proposals ≡ base.nodes
-long c = simp length_map at c.well-formed.0.1.1.1.1.0.1.0.1
+long c = simp length-map at c.well-formed.0.1.1.1.1.0.1.0.1
 
 -- t is small
 few : (c : tie.After-max-faulty invariant-loop decreases-loop) → c.max-faulty.result ≤ base.nodes

@@ -2,7 +2,7 @@ use borrow.Author.Rules.{rules}
 use mathlib.Core.Path.{◌≡◌, refl, sym, ◌∙◌}
 use Prim.Native.Nat.{◌≤◌, ◌-◌, ◌+◌}
 use native.Mathlib.Omega.{arith}
-use lib.ListN.{length, drop, length_map}
+use lib.ListN.{length, drop, length-map}
 use Rattle.lists.specs.Lists.{below, has_key}
 use Rattle.lists.proofs.ListLaws.{rest_more}
 use Rattle.lists.proofs.SortedLaws.{below_more, below_stop, below_end}
@@ -25,7 +25,7 @@ len-requires : tie.Need-len-requires invariant-loop decreases-loop
 len-requires c κs = search rules
 
 loop-holds : tie.Need-loop-init invariant-loop decreases-loop
-loop-holds c = (search rules, c.len.ensures.1, c.len.ensures.0 ∙ length_map (held c.before.args.t1) signed_of, omega arith, refl)
+loop-holds c = (search rules, c.len.ensures.1, c.len.ensures.0 ∙ length-map (held c.before.args.t1) signed_of, omega arith, refl)
 
 mul-x : tie.Need-overflow-mul-x invariant-loop decreases-loop
 mul-x c = search rules

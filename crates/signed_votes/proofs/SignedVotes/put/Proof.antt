@@ -4,7 +4,7 @@ use mathlib.Core.Bool.{true, false}
 use mathlib.Core.List.{map}
 use Prim.Native.Nat.{ℕ, ◌≤◌, ◌<◌}
 use native.Mathlib.Omega.{arith}
-use lib.ListN.{length, take, length_map, length-set}
+use lib.ListN.{length, take, length-map, length-set}
 use Rattle.lists.specs.Lists.{has_key}
 use Rattle.lists.proofs.ListLaws.{take_live}
 use Rattle.lists.proofs.SortedLaws.{Shifted, shift_start, shift_down, shift_done, put_new, put_full}
@@ -24,7 +24,7 @@ decreases-loop x self₀ n at j₀ self j = j
 
 -- the count that `len` gives
 counted : (c : tie.After-len invariant-loop decreases-loop) → c.len.result ≡ length (held c.before.args.t1)
-counted c = c.len.ensures.0 ∙ length_map (held c.before.args.t1) signed_of
+counted c = c.len.ensures.0 ∙ length-map (held c.before.args.t1) signed_of
 
 -- what the first test says of the voter
 stands : (c : tie.Then1 invariant-loop decreases-loop) → has_key voter_in c.before.before.before.args.x.voter (held c.before.before.before.args.t1) ≡ true
@@ -54,7 +54,7 @@ element-set-from-x c = within c
 loop-holds : tie.Need-loop-init invariant-loop decreases-loop
 loop-holds c =
     let t = c.before.before.before.before.args.t1 in
-    let l : length t.votes ≡ base.nodes = simp length_map at c.before.before.before.before.well-formed.0.1.1.1.0.1.0.1 in
+    let l : length t.votes ≡ base.nodes = simp length-map at c.before.before.before.before.well-formed.0.1.1.1.0.1.0.1 in
     let h : c.before.before.before.len.result < length t.votes = omega (arith, c.if2.true) in
     (omega (arith, counted c.before.before.before, c.before.before.place.ensures.1), search rules, c.if2.true, l, h, shift_start t.votes _ h c.before.before.before.before.args.x)
 

@@ -3,7 +3,7 @@ use Rattle.vote_counter.specs.declared.Winner.{Winner}
 use mathlib.Core.Path.{◌≡◌, refl, sym, ap, ◌∙◌}
 use native.Mathlib.Omega.{arith}
 use Prim.Native.Nat.{ℕ, ◌+◌, ◌-◌, ◌≤◌, ◌<◌}
-use lib.ListN.{length, take, drop, get_or, length_map, get_or-map}
+use lib.ListN.{length, take, drop, get_or, length-map, get_or-map}
 use mathlib.Core.List.{List, map}
 use mathlib.Core.Logic.{⊎_elim}
 use Rattle.bincode.specs.Sizes.{base}
@@ -54,7 +54,7 @@ module _ (t : SignedVotes) (i : ℕ) (l : i < length (votes_of t)) (z : SignedVo
   own = change_of (get_or t.votes i z).vote.change
 
   within : i < length (choices t)
-  within = omega (arith, length_map (votes_of t) (λ v. v.vote.change))
+  within = omega (arith, length-map (votes_of t) (λ v. v.vote.change))
 
   module _ (k : j ≤ i) (e : count ≡ support same_change own (take j (choices t))) (y : SignedVote) where
     counted-in : j < length (choices t)
@@ -159,7 +159,7 @@ returns c =
     c.before.before.before.before.before.before.args.self
     c.before.voters.won
     (ap said_winner u.3
-    ∙ sym (rw c.before.before.before.before.num-faulty.ensures at (u.4 ∙ voters_end same_change (choices x) _ c.before.voters.i (omega (arith, length_map (votes_of x) (λ v. v.vote.change), u.2, c.voters-test.false)))))
+    ∙ sym (rw c.before.before.before.before.num-faulty.ensures at (u.4 ∙ voters_end same_change (choices x) _ c.before.voters.i (omega (arith, length-map (votes_of x) (λ v. v.vote.change), u.2, c.voters-test.false)))))
 
 returns-2 : tie.Need-returns-2 invariant-loop decreases-loop invariant-voters decreases-voters
 unfolding winner_at

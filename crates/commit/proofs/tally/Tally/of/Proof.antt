@@ -2,7 +2,7 @@ use borrow.Author.Rules.{rules}
 use mathlib.Core.Path.{◌≡◌, refl, ap, ◌∙◌}
 use Prim.Native.Nat.{◌≤◌, ◌<◌, ◌-◌}
 use native.Mathlib.Omega.{arith}
-use lib.ListN.{length, length_map, length-take}
+use lib.ListN.{length, length-map, length-take}
 use Rattle.bincode.specs.Sizes.{base}
 use Rattle.filled.proofs.FillLaws.{FilledTo, fill_length, fill_start, fill_store, fill_end}
 use Rattle.votes.specs.Votes.{signed_of}
@@ -28,7 +28,7 @@ empty-requires c κs = search rules
 loop-holds : tie.Need-loop-init invariant-loop decreases-loop
 loop-holds c =
     let a = c.before.before.args.t1 in
-    (search rules, c.before.len.ensures.1, c.before.len.ensures.0 ∙ length_map (held a) signed_of, ap (λ (t : Tally). length t.entries) c.empty.ensures, fill_start kept_of a.votes a.count _)
+    (search rules, c.before.len.ensures.1, c.before.len.ensures.0 ∙ length-map (held a) signed_of, ap (λ (t : Tally). length t.entries) c.empty.ensures, fill_start kept_of a.votes a.count _)
 
 mul-x : tie.Need-overflow-mul-x invariant-loop decreases-loop
 mul-x c = search rules
