@@ -1,0 +1,17 @@
+use mathlib.Core.Path.{◌≡◌}
+use lib.ListN.{length, length-map}
+use Rattle.lists.proofs.ListLaws.{append_held, append_full}
+use Rattle.bincode.specs.Sizes.{base}
+use Rattle.due.proofs.DueList.append.Goals as goal
+
+pub returns-then-n-lt-LIMIT : goal.returns-then-n-lt-LIMIT
+returns-then-n-lt-LIMIT c =
+    let places : length c.args.self.items ≡ base.due = c.well_formed.0.1.1.1.0.1.0.1 in
+    let l = c.args.self in
+    append_held l.items l.count base.due c.len-n.result c.args.item (places) c.len-n.ensures.0 c.if-n-lt-LIMIT.true
+
+pub returns-else-n-lt-LIMIT : goal.returns-else-n-lt-LIMIT
+returns-else-n-lt-LIMIT c =
+    let places : length c.args.self.items ≡ base.due = c.well_formed.0.1.1.1.0.1.0.1 in
+    let l = c.args.self in
+    append_full l.items l.count base.due c.len-n.result c.args.item (places) c.len-n.ensures.0 c.if-n-lt-LIMIT.false
