@@ -1,0 +1,17 @@
+use mathlib.Core.Path.{◌≡◌, refl}
+use mathlib.Core.Logic.{⊎_elim}
+use Prim.Native.Nat.{◌≤◌, ◌-◌, ◌+◌}
+use native.Mathlib.Omega.{arith}
+use lib.ListN.{length, drop, length-map}
+use Rattle.lists.specs.Lists.{marked, filter}
+use Rattle.bincode.specs.Sizes.{base}
+use Rattle.key_gen.specs.KeyGen.{key_gen_of, is_recorded, proposal_at, threshold, count_complete}
+use Rattle.key_gen.proofs.KeyGenLaws.{blank, completed, complete_more, complete_same, count_more, count_same, count_none, count_end}
+use Rattle.key_gen.proofs.KeyGen.count_complete.Given as goal
+
+abbrev pub invariant-loop-i : goal.invariant-loop-i
+invariant-loop-i l =
+    (l.i ≤ base.nodes) × (l.count ≤ l.i) × (l.count + completed (threshold (key_gen_of l.self)) (marked is_recorded proposal_at l.i (drop l.i l.self.proposals)) ≡ count_complete (key_gen_of l.self))
+
+abbrev pub decreases-loop-i : goal.decreases-loop-i
+decreases-loop-i l = base.nodes - l.i

@@ -1,0 +1,18 @@
+use mathlib.Core.Path.{◌≡◌, sym, ◌∙◌}
+use Prim.Native.Nat.{◌≤◌, ◌-◌, ◌+◌}
+use native.Mathlib.Omega.{arith}
+use lib.ListN.{length, drop}
+use Rattle.lists.specs.Lists.{below}
+use Rattle.lists.proofs.ListLaws.{rest_more}
+use Rattle.lists.proofs.SortedLaws.{below_more, below_stop, below_end}
+use Rattle.bincode.specs.Sizes.{base}
+use Rattle.pub_key_map.specs.PubKeyMap.{nodes_of}
+use Rattle.node_change.specs.NodeChange.{id_of}
+use Rattle.node_change.proofs.place.Given as goal
+
+abbrev pub invariant-loop-i : goal.invariant-loop-i
+invariant-loop-i l =
+    (l.i ≤ l.n) × (l.n ≤ base.nodes) × (l.n ≡ length (nodes_of l.map)) × (below id_of l.id (nodes_of l.map) ≡ l.i + below id_of l.id (drop l.i (nodes_of l.map)))
+
+abbrev pub decreases-loop-i : goal.decreases-loop-i
+decreases-loop-i l = l.n - l.i

@@ -1,0 +1,14 @@
+use mathlib.Core.Path.{◌≡◌}
+use Prim.Native.Nat.{◌≤◌, ◌<◌}
+use native.Mathlib.Omega.{arith}
+use lib.ListN.{length, length-map, length-set}
+use Rattle.lists.proofs.SortedLaws.{Shifted, shift_start, shift_down, shift_done}
+use Rattle.bincode.specs.Sizes.{base}
+use Rattle.node_change.proofs.shift.Given as goal
+
+abbrev pub invariant-loop-j : goal.invariant-loop-j
+invariant-loop-j l =
+    (l.at ≤ l.j) × (l.j ≤ l.n) × (l.n < base.nodes) × (length l.map.nodes ≡ base.nodes) × (h : l.n < length l.initial.map.nodes) × Shifted l.initial.map.nodes l.n h l.j l.map.nodes
+
+abbrev pub decreases-loop-j : goal.decreases-loop-j
+decreases-loop-j l = l.j
