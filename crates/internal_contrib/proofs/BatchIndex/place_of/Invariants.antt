@@ -1,0 +1,17 @@
+use mathlib.Core.Path.{◌≡◌, refl, sym, ap, ◌∙◌}
+use Prim.Native.Nat.{◌≤◌, ◌-◌}
+use native.Mathlib.Omega.{arith}
+use lib.ListN.{length, drop}
+use Rattle.lists.specs.Lists.{lookup}
+use Rattle.lists.proofs.ListLaws.{rest_more}
+use Rattle.lists.proofs.SortedLaws.{lookup_hit, lookup_miss, lookup_end}
+use Rattle.bincode.specs.Sizes.{base}
+use Rattle.internal_contrib.specs.Index.{contribs_in, contrib_id, place_by}
+use Rattle.internal_contrib.proofs.BatchIndex.place_of.Given as goal
+
+abbrev pub invariant-loop-i : goal.invariant-loop-i
+invariant-loop-i l =
+    (l.i ≤ l.n) × (l.n ≤ base.nodes) × (l.n ≡ length (contribs_in l.self)) × (lookup contrib_id (contribs_in l.self) l.id ≡ lookup contrib_id (drop l.i (contribs_in l.self)) l.id)
+
+abbrev pub decreases-loop-i : goal.decreases-loop-i
+decreases-loop-i l = l.n - l.i

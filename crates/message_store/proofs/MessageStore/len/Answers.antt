@@ -1,0 +1,20 @@
+use native.Mathlib.Omega.{arith}
+use mathlib.Core.Path.{◌≡◌, sym, ◌∙◌}
+use lib.ListN.{length, length-map}
+use Rattle.lists.proofs.ListLaws.{length_live}
+use Rattle.bincode.specs.Sizes.{base}
+use Rattle.key_gen_message.specs.KeyGenMessage.{signed_of}
+use Rattle.message_store.specs.MessageStore.{held}
+use Rattle.message_store.proofs.MessageStore.len.Goals as goal
+
+pub returns-then-n-lt-LIMIT : goal.returns-then-n-lt-LIMIT
+returns-then-n-lt-LIMIT c =
+    let m = c.args.self in
+    let l : length m.messages ≡ base.store = c.well_formed.0.1.1.1.0.1.0.1 in
+    (sym (length-map (held m) signed_of ∙ (length_live m.messages m.count base.store l).0 (omega arith)), omega arith)
+
+pub returns-else-n-lt-LIMIT : goal.returns-else-n-lt-LIMIT
+returns-else-n-lt-LIMIT c =
+    let m = c.args.self in
+    let l : length m.messages ≡ base.store = c.well_formed.0.1.1.1.0.1.0.1 in
+    (sym (length-map (held m) signed_of ∙ (length_live m.messages m.count base.store l).1 (omega arith)), omega arith)

@@ -1,0 +1,4 @@
+use Rattle.signed_votes.proofs.SignedVotes.empty.Goals as goal
+
+pub returns : goal.returns
+returns c = rw c.empty.ensures
