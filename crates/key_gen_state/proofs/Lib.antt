@@ -1,4 +1,3 @@
 pub mod CountLaws
 pub mod LentCountLaws
-pub mod LocalCounts
 pub mod PageLaws

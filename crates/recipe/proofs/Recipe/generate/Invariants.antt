@@ -1,0 +1,24 @@
+use mathlib.Core.Path.{◌≡◌, refl, sym, ap, ◌∙◌}
+use mathlib.Core.Logic.{⊎_elim}
+use mathlib.Core.List.{map}
+use mathlib.Core.Bool.{◌||◌}
+use Prim.Native.Nat.{◌≤◌, ◌-◌}
+use native.Mathlib.Omega.{arith}
+use lib.ListN.{length, drop, length-map}
+use Rattle.util.specs.MaxFaulty.{max_faulty}
+use Rattle.bincode.specs.Sizes.{base}
+use Rattle.key_gen.proofs.KeyGenLaws.{blank}
+use Rattle.recipe.specs.Recipe.{no_share, some_short}
+use Rattle.recipe.specs.Places.{share_for}
+use Rattle.recipe.proofs.FillLaws.{Filled, fill_start, fill_more, fill_end}
+use Rattle.recipe.proofs.RecipeLaws.{parts_from, short_more, short_same, short_end, map_more, map_end, recipe_held}
+use Rattle.recipe.proofs.Recipe.generate.Given as goal
+
+abbrev pub invariant-loop-i : goal.invariant-loop-i
+invariant-loop-i l =
+    (l.i ≤ base.nodes)
+    × Filled base.nodes no_share l.shares l.i (map (share_for l.t) (drop l.i l.g.proposals)) (map (share_for l.t) l.g.proposals)
+    × ((l.short || some_short l.t (parts_from l.t l.i (drop l.i l.g.proposals))) ≡ some_short l.t (parts_from l.t 0 l.g.proposals))
+
+abbrev pub decreases-loop-i : goal.decreases-loop-i
+decreases-loop-i l = base.nodes - l.i

@@ -1,0 +1,17 @@
+use mathlib.Core.Path.{◌≡◌, refl}
+use mathlib.Core.Logic.{⊎_elim}
+use mathlib.Core.Bool.{false}
+use Prim.Native.Nat.{◌≤◌, ◌-◌}
+use native.Mathlib.Omega.{arith}
+use lib.ListN.{length, drop}
+use Rattle.bincode.specs.Sizes.{base}
+use Rattle.recipe.specs.Places.{first_marks}
+use Rattle.recipe.proofs.FillLaws.{Filled, fill_start, fill_more, fill_same, fill_end}
+use Rattle.recipe.proofs.RecipeLaws.{marks_more, marks_full, marks_none, marks_end}
+use Rattle.recipe.proofs.first.Given as goal
+
+abbrev pub invariant-loop-i : goal.invariant-loop-i
+invariant-loop-i l = (l.i ≤ base.nodes) × Filled base.nodes false l.out l.i (first_marks l.left (drop l.i l.good)) (first_marks l.n l.good)
+
+abbrev pub decreases-loop-i : goal.decreases-loop-i
+decreases-loop-i l = base.nodes - l.i
