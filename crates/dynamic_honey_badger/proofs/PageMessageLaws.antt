@@ -24,8 +24,8 @@ use Rattle.dynamic_honey_badger.specs.State.{StateOf, candidate_nodes, is_candid
 use Rattle.dynamic_honey_badger.specs.Received.{quiet, fault, refusal, received_key_gen, received_content}
 
 -- a key, or none, is one that signed: "`verify` means equality"
-is_key : (sig : ℕ) (x : Found ℕ) → x ≡ found sig → is_key sig x ≡ true
-is_key sig x e = rw (e, eq-eqb sig sig refl)
+is_key_lem : (sig : ℕ) (x : Found ℕ) → x ≡ found sig → is_key sig x ≡ true
+is_key_lem sig x e = rw (e, eq-eqb sig sig refl)
 
 not_key : (sig : ℕ) (x : Found ℕ) → (x ≡ found sig → ⊥) → is_key sig x ≡ false
 not_key sig (found key) h = ne_eqb key sig (λ e. h (ap found e))
@@ -41,8 +41,8 @@ SignedBy s id sig = (key_of s.counter.nodes id ≡ found sig) ⊎ CandidateKey s
 module _ (s : StateOf) (id sig : ℕ) where
   pub signed_valid : SignedBy s id sig → valid_under s.counter.nodes (candidate_nodes s.key_gen) id sig ≡ true
   unfolding valid_under
-  signed_valid (inl e) = rw (is_key sig (key_of s.counter.nodes id) e)
-  signed_valid (inr e) = rw (e.1, is_key sig (key_of e.0.key_gen.nodes id) e.2) (either (is_key sig (key_of s.counter.nodes id)))
+  signed_valid (inl e) = rw (is_key_lem sig (key_of s.counter.nodes id) e)
+  signed_valid (inr e) = rw (e.1, is_key_lem sig (key_of e.0.key_gen.nodes id) e.2) (either (is_key sig (key_of s.counter.nodes id)))
     where
       either : (b : Bool) → (b || true) ≡ true
       either true = refl

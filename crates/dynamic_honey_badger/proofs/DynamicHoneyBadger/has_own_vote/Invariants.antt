@@ -1,0 +1,21 @@
+use borrow.Author.Tests.{not-true, not-false}
+use mathlib.Core.Bool.{Bool}
+use mathlib.Core.Path.{◌≡◌, refl, sym, ap, ◌∙◌}
+use Prim.Native.Nat.{◌≤◌, ◌-◌}
+use native.Mathlib.Omega.{arith}
+use lib.ListN.{length, drop}
+use Rattle.bincode.specs.Sizes.{base}
+use Rattle.votes.specs.Votes.{signed_of}
+use Rattle.vote_counter.specs.Answers.{said_found}
+use Rattle.vote_counter.specs.VoteCounter.{counter_of, pending_votes}
+use Rattle.dynamic_honey_badger.specs.Asked.{some_by}
+use Rattle.dynamic_honey_badger.proofs.AskedLaws.{pending_few, some_hit, some_miss, some_none, some_past}
+use Rattle.dynamic_honey_badger.proofs.DynamicHoneyBadger.has_own_vote.Given as goal
+
+abbrev pub invariant-loop-place : goal.invariant-loop-place
+invariant-loop-place l =
+    let vs = pending_votes (counter_of l.counter) in
+    (l.place ≤ l.n) × (l.n ≤ base.nodes) × (length vs ≤ l.n) × (some_by l.counter.our_id vs ≡ some_by l.counter.our_id (drop l.place vs))
+
+abbrev pub decreases-loop-place : goal.decreases-loop-place
+decreases-loop-place l = l.n - l.place

@@ -1,0 +1,30 @@
+use mathlib.Core.Path.{ap, ◌∙◌}
+use Rattle.bincode.specs.Sizes.{base}
+use Rattle.filled.proofs.DueLaws.{due_same, places_counted}
+use Rattle.join_plan.specs.JoinPlan.{plan_of}
+use Rattle.dynamic_honey_badger.specs.declared.DynamicHoneyBadger.{DynamicHoneyBadger}
+use Rattle.dynamic_honey_badger.specs.State.{state_of, Joined, joined_by, joined_with, numbered}
+use Rattle.dynamic_honey_badger.proofs.JoinLaws.{joined_lent, refused_lent}
+use Rattle.dynamic_honey_badger.proofs.DynamicHoneyBadger.new_joining.Goals as goal
+
+pub returns-in-Accepted : goal.returns-in-Accepted
+unfolding joined_with
+returns-in-Accepted c =
+    let a = c.args in
+    let r = c.check_joining-c in
+    let p = plan_of r.result.plan in
+    let j = c.join in
+    let opens = ap (λ (s : DynamicHoneyBadger). joined_by base a.our_id p.era p.change (state_of s)) c.open-state.ensures in
+    joined_lent base a.our_id a.secret_key _ a.plan.now a.due_kinds.now a.due_indices.now a.due_eras.now
+    (places_counted a.due_kinds.now a.due_indices.now a.due_eras.now _ _ c.shorter_of-shorter.ensures c.shorter_of-due_places.ensures)
+    r.result.outcome p r.ensures.0 c.in-Accepted.is j.result _ _ _ j.ensures.0
+    (j.ensures.1 ∙ ap numbered opens)
+    (due_same a.due_kinds.now _ a.due_indices.now _ a.due_eras.now _ _ _ (ap (λ (x : Joined). x.due) opens) j.ensures.2)
+
+pub returns-in-Refused : goal.returns-in-Refused
+returns-in-Refused c =
+    let a = c.args in
+    let r = c.check_joining-c in
+    refused_lent base a.our_id a.secret_key _ a.plan.now a.due_kinds.now a.due_indices.now a.due_eras.now
+    (places_counted a.due_kinds.now a.due_indices.now a.due_eras.now _ _ c.shorter_of-shorter.ensures c.shorter_of-due_places.ensures)
+    r.result.outcome (plan_of r.result.plan) r.ensures.0 _ c.in-Refused.is _ c.not_opened-state.ensures
