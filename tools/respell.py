@@ -17,6 +17,8 @@ SIGNATURE = re.compile(r"^\s*(?:(?:unfoldable|abbrev|pub|data|record)\s+)*((?:[^
 TOKEN = re.compile(r"[A-Za-z_][A-Za-z0-9_'′₀-₉-]*")
 
 # Lemmas that would have the name of a definition, in a file that has both.
+# A lemma whose name a field has too is told apart in the one file where a definition has the name.
+IN_FILE = {"crates/dynamic_honey_badger/proofs/PageMessageLaws.antt": {"is-key": "is_key_lem"}}
 TOLD_APART = {"worked-out": "board_worked_out", "with_params": "with_params_lem", "decide_by": "decide_by_lem"}
 
 
@@ -173,7 +175,7 @@ def main():
     ):
         for path in paths:
             old = read(path)
-            new = turn(old, table, apart)
+            new = turn(old, table, apart | IN_FILE.get(path, {}))
             if new != old:
                 turned += 1
                 with open(path, "w", encoding="utf-8") as f:

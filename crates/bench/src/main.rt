@@ -3,15 +3,16 @@
 // parts one behind the other.
 #![tactic(auto)]
 
-ghost use Rattle.std.specs.Prelude.{◌≤◌};
+ghost use Rattle.std.specs.Prelude.{◌≤◌, length, IfOk};
 
 use bincode::ReadU64;
 use due::DueList;
 use dynamic_honey_badger::DynamicHoneyBadger;
 use fault_log::FaultLog;
 use joining::StartOutcome;
-use libc::{STDIN_FILENO, STDOUT_FILENO};
 use process_batch::BatchOutcome;
+use std::io;
+use std::io::Read;
 
 // The longest input: two batches of the greatest length, a map, params.
 pub const INPUT: usize = 132000;
@@ -171,13 +172,28 @@ fn bench(s: &[u8]) -> bool {
     false
 }
 
-fn main() {
+// Reads until a buffer is full or the input ends, and answers how many bytes it then holds. A proved loop has to end, so its turns are counted, to a number that no run uses up.
+fn read_full(source: &mut impl Read, buf: &mut [u8]) -> io::Result<usize>
+    ensures { IfOk result (λ n. n ≤ length buf.new) }
+{
+    let mut n: usize = 0;
+    for _ in 0..u64::MAX {
+        let got = source.read(&mut buf[n..])?;
+        if got == 0 {
+            return Ok(n);
+        }
+        n += got;
+    }
+    Ok(n)
+}
+
+fn main(rt: HostRuntime) -> io::Result<()> {
     let mut input = [0u8; INPUT];
-    let n = io::read_full(STDIN_FILENO, &mut input);
+    let n = read_full(&mut rt.stdin(), &mut input)?;
     let good = bench(part(&input, 0, n));
     if good {
-        io::write_all(STDOUT_FILENO, b"all reported\n");
+        rt.write_all(b"all reported\n")
     } else {
-        io::write_all(STDOUT_FILENO, b"not reported\n");
+        rt.write_all(b"not reported\n")
     }
 }

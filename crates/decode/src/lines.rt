@@ -1,8 +1,10 @@
 // Cuts standard input into lines and answers each.
-ghost use Rattle.std.specs.Prelude.{◌≡◌, ◌≤◌, length};
+ghost use Rattle.std.specs.Prelude.{◌≡◌, ◌≤◌, length, IfOk};
 
 use crate::text::first;
-use libc::{STDIN_FILENO, STDOUT_FILENO};
+use anyhow::Context;
+use std::io;
+use std::io::{Read, Write};
 
 // The place of the first line feed at or after `from`, or the length.
 fn line_end(s: &[u8], from: usize) -> usize
@@ -87,26 +89,21 @@ fn ended(n: usize) -> Taken
     }
 }
 
-// Reads a chunk. A last line without a line feed is a line. Where reading fails, that ends the input too, and a line that was cut off there is dropped.
-fn read_chunk(chunk: &mut [u8], n: usize) -> Taken
-    ensures { (result.held ≤ n) × (result.at ≤ result.filled) × (result.filled ≤ length chunk.new) }
+// Reads a chunk. A last line without a line feed is a line. Where reading fails, that is the program's error, and a line that was cut off there is not answered.
+fn read_chunk(input: &mut impl Read, chunk: &mut [u8], n: usize) -> io::Result<Taken>
+    ensures { IfOk result (λ t. (t.held ≤ n) × (t.at ≤ t.filled) × (t.filled ≤ length chunk.new)) }
 {
-    let got = libc::read(STDIN_FILENO, chunk);
-    if got < 0 {
-        os::fail(b"decode: standard input");
-        return ended(0);
+    let filled = input.read(chunk)?;
+    if filled == 0 {
+        return Ok(ended(n));
     }
-    if got == 0 {
-        return ended(n);
-    }
-    let filled = io::count(got, chunk);
-    Taken {
+    Ok(Taken {
         held: n,
         whole: false,
         at: 0,
         filled,
         more: true,
-    }
+    })
 }
 
 // How much of the next line is held: after a whole line nothing.
@@ -117,46 +114,56 @@ fn begun(t: Taken) -> usize
 }
 
 // One turn: takes from the chunk where bytes are left, and else reads the next one.
-fn take_some(line: &mut [u8], chunk: &mut [u8], t: Taken) -> Taken
+fn take_some(
+    input: &mut impl Read,
+    line: &mut [u8],
+    chunk: &mut [u8],
+    t: Taken,
+) -> io::Result<Taken>
     requires { (t.held ≤ length line.old) × (t.at ≤ t.filled) × (t.filled ≤ length chunk.old) }
-    ensures { (result.held ≤ length line.new) × (result.at ≤ result.filled) × (result.filled ≤ length chunk.new) }
+    ensures { IfOk result (λ r. (r.held ≤ length line.new) × (r.at ≤ r.filled) × (r.filled ≤ length chunk.new)) }
 {
     let n = begun(t);
     if t.at < t.filled {
-        return take_rest(line, chunk, t, n);
+        return Ok(take_rest(line, chunk, t, n));
     }
-    read_chunk(chunk, n)
+    read_chunk(input, chunk, n)
 }
 
-// The next line. A proved loop has to end, so it counts its turns down, from a number that no run uses up.
-fn next_line(line: &mut [u8], chunk: &mut [u8], from: Taken) -> Taken
+// The next line. A proved loop has to end, so its turns are counted, to a number that no run uses up.
+fn next_line(
+    input: &mut impl Read,
+    line: &mut [u8],
+    chunk: &mut [u8],
+    from: Taken,
+) -> io::Result<Taken>
     requires { (from.held ≤ length line.old) × (from.at ≤ from.filled) × (from.filled ≤ length chunk.old) }
-    ensures { (result.held ≤ length line.new) × (result.at ≤ result.filled) × (result.filled ≤ length chunk.new) }
+    ensures { IfOk result (λ t. (t.held ≤ length line.new) × (t.at ≤ t.filled) × (t.filled ≤ length chunk.new)) }
 {
     let mut t = from;
-    let mut turns = u64::MAX;
-    while 0 < turns {
-        t = take_some(line, chunk, t);
+    for _ in 0..u64::MAX {
+        t = take_some(input, line, chunk, t)?;
         if t.whole {
-            return t;
+            return Ok(t);
         }
-        turns -= 1;
     }
-    t
+    Ok(t)
 }
 
-// Writes an answer, the first n bytes of `out`, and answers whether to go on; where writing fails, it says so on standard error.
-fn tell(out: &[u8], n: usize, more: bool) -> bool {
-    if io::write_all(STDOUT_FILENO, first(out, n)) {
-        return more;
-    }
-    os::fail(b"decode: standard output");
-    false
+// Writes an answer, the first n bytes of `out`, and answers whether to go on; where writing fails, that is the program's error.
+fn tell(output: &mut impl Write, out: &[u8], n: usize, more: bool) -> io::Result<bool> {
+    output.write_all(first(out, n))?;
+    Ok(more)
 }
 
-// Reads to the end of the input, with turns counted down as above.
-pub(crate) fn read_all(line: &mut [u8], out: &mut [u8]) {
-    let mut chunk = io::large_buffer();
+// Reads to the end of the input, with turns counted as above.
+pub(crate) fn read_all(
+    input: &mut impl Read,
+    output: &mut impl Write,
+    line: &mut [u8],
+    out: &mut [u8],
+) -> anyhow::Result<()> {
+    let mut chunk = [0u8; 65536];
     let mut t = Taken {
         held: 0,
         whole: false,
@@ -164,14 +171,13 @@ pub(crate) fn read_all(line: &mut [u8], out: &mut [u8]) {
         filled: 0,
         more: true,
     };
-    let mut turns = u64::MAX;
-    while 0 < turns {
-        t = next_line(line, &mut chunk, t);
+    for _ in 0..u64::MAX {
+        t = next_line(input, line, &mut chunk, t).context("decode: standard input")?;
         let held = t.held;
         let said = crate::show::answer(out, &line[0..held]);
-        if !tell(out, said, t.more) {
-            return;
+        if !tell(output, out, said, t.more).context("decode: standard output")? {
+            return Ok(());
         }
-        turns -= 1;
     }
+    Ok(())
 }

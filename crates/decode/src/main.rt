@@ -9,8 +9,8 @@ mod show;
 mod text;
 mod values;
 
-fn main() {
+fn main(rt: HostRuntime) -> anyhow::Result<()> {
     let mut line = [0u8; 140001];
     let mut out = [0u8; 200000];
-    lines::read_all(&mut line, &mut out);
+    lines::read_all(&mut rt.stdin(), &mut rt.stdout(), &mut line, &mut out)
 }

@@ -1,5 +1,5 @@
 // Cuts standard input into lines and hands each to the replica's host.
-ghost use Rattle.std.specs.Prelude.{◌≡◌, ◌+◌, ◌≤◌, length};
+ghost use Rattle.std.specs.Prelude.{◌≡◌, ◌+◌, ◌≤◌, length, IfOk};
 
 use crate::calls::{
     Host, accepted, cast, open, receive, reported, say_handling, say_start, say_vote, take_back,
@@ -10,7 +10,9 @@ use crate::kept::{ID, KIND, NUMBER, PLACES, all_kept};
 use crate::parse::{Call, MOST_LINE, parse};
 use crate::queries::ask;
 use crate::text::OUT;
-use libc::{STDIN_FILENO, STDOUT_FILENO};
+use anyhow::Context;
+use std::io;
+use std::io::{Read, Write};
 
 // The bytes of the input that are held: a line of the greatest length, and what is read behind it.
 pub const INPUT: usize = 160000;
@@ -24,13 +26,6 @@ pub struct Taken {
     pub filled: usize,
     pub whole: bool,
     pub more: bool,
-}
-
-// What a read gave.
-#[derive(Clone, Copy)]
-pub struct Got {
-    pub failed: bool,
-    pub count: usize,
 }
 
 // Moves n bytes down to the front, where they do not stand there.
@@ -48,22 +43,10 @@ fn move_down(input: &mut [u8], from: usize, n: usize)
 }
 
 // Reads what there is, as much as fits.
-fn read_some(room: &mut [u8]) -> Got
-    ensures { result.count ≤ length room.new }
+fn read_some(source: &mut impl Read, room: &mut [u8]) -> io::Result<usize>
+    ensures { IfOk result (λ count. count ≤ length room.new) }
 {
-    let got = libc::read(STDIN_FILENO, room);
-    if got < 0 {
-        os::fail(b"replay: standard input");
-        return Got {
-            failed: true,
-            count: 0,
-        };
-    }
-    let count = io::count(got, room);
-    Got {
-        failed: false,
-        count,
-    }
+    source.read(room)
 }
 
 // How many of n bytes of an unfinished line are kept: one more than a line may have, which is enough to tell that it is too long.
@@ -86,35 +69,32 @@ fn ended(n: usize) -> Taken
     }
 }
 
-// Reads behind n bytes of a line. A last line without a line feed is a line. Where reading fails, that ends the input too, and a line that was cut off there is dropped.
-fn read_behind(input: &mut [u8], n: usize) -> Taken
+// Reads behind n bytes of a line. A last line without a line feed is a line. Where reading fails, that is the program's error, and a line that was cut off there is not answered.
+fn read_behind(source: &mut impl Read, input: &mut [u8], n: usize) -> io::Result<Taken>
     requires { n ≤ length input.old }
-    ensures { (result.at ≤ result.end) × (result.end ≤ result.filled) × (result.filled ≤ length input.new) }
+    ensures { IfOk result (λ t. (t.at ≤ t.end) × (t.end ≤ t.filled) × (t.filled ≤ length input.new)) }
 {
-    let got = read_some(&mut input[n..]);
-    if got.failed {
-        return ended(0);
+    let count = read_some(source, &mut input[n..])?;
+    if count == 0 {
+        return Ok(ended(n));
     }
-    if got.count == 0 {
-        return ended(n);
-    }
-    Taken {
+    Ok(Taken {
         at: 0,
         end: n,
-        filled: n + got.count,
+        filled: n + count,
         whole: false,
         more: true,
-    }
+    })
 }
 
 // Brings what is held of a line to the front, and reads behind it.
-fn refill(input: &mut [u8], at: usize, filled: usize) -> Taken
+fn refill(source: &mut impl Read, input: &mut [u8], at: usize, filled: usize) -> io::Result<Taken>
     requires { (at ≤ filled) × (filled ≤ length input.old) }
-    ensures { (result.at ≤ result.end) × (result.end ≤ result.filled) × (result.filled ≤ length input.new) }
+    ensures { IfOk result (λ t. (t.at ≤ t.end) × (t.end ≤ t.filled) × (t.filled ≤ length input.new)) }
 {
     let n = kept_of(filled - at);
     move_down(input, at, n);
-    read_behind(input, n)
+    read_behind(source, input, n)
 }
 
 // Searches the line that starts at a place, from another on.
@@ -133,63 +113,58 @@ fn search(input: &[u8], at: usize, from: usize, filled: usize) -> Taken
 }
 
 // One turn: behind a whole line the next one starts; where all that was read is searched, more is read.
-fn take_some(input: &mut [u8], t: Taken) -> Taken
+fn take_some(source: &mut impl Read, input: &mut [u8], t: Taken) -> io::Result<Taken>
     requires { (t.at ≤ t.end) × (t.end ≤ t.filled) × (t.filled ≤ length input.old) }
-    ensures { (result.at ≤ result.end) × (result.end ≤ result.filled) × (result.filled ≤ length input.new) }
+    ensures { IfOk result (λ r. (r.at ≤ r.end) × (r.end ≤ r.filled) × (r.filled ≤ length input.new)) }
 {
     if t.end < t.filled {
         if t.whole {
-            return search(input, t.end + 1, t.end + 1, t.filled);
+            return Ok(search(input, t.end + 1, t.end + 1, t.filled));
         }
-        return search(input, t.at, t.end, t.filled);
+        return Ok(search(input, t.at, t.end, t.filled));
     }
-    refill(input, t.at, t.filled)
+    refill(source, input, t.at, t.filled)
 }
 
-// The next line. A proved loop has to end, so it counts its turns down, from a number that no run uses up.
-fn next_line(input: &mut [u8], from: Taken) -> Taken
+// The next line. A proved loop has to end, so its turns are counted, to a number that no run uses up.
+fn next_line(source: &mut impl Read, input: &mut [u8], from: Taken) -> io::Result<Taken>
     requires { (from.at ≤ from.end) × (from.end ≤ from.filled) × (from.filled ≤ length input.old) }
-    ensures { (result.at ≤ result.end) × (result.end ≤ result.filled) × (result.filled ≤ length input.new) }
+    ensures { IfOk result (λ t. (t.at ≤ t.end) × (t.end ≤ t.filled) × (t.filled ≤ length input.new)) }
 {
     let mut t = from;
-    let mut turns = u64::MAX;
-    while 0 < turns {
-        t = take_some(input, t);
+    for _ in 0..u64::MAX {
+        t = take_some(source, input, t)?;
         if t.whole {
-            return t;
+            return Ok(t);
         }
-        turns -= 1;
     }
-    t
+    Ok(t)
 }
 
-// Writes an answer, the first n bytes of `out`, and answers whether to go on; where writing fails, it says so on standard error.
-fn tell(out: &[u8; OUT], n: usize, more: bool) -> bool {
-    if io::write_all(STDOUT_FILENO, part(out, 0, n)) {
-        return more;
-    }
-    os::fail(b"replay: standard output");
-    false
+// Writes an answer, the first n bytes of `out`, and answers whether to go on; where writing fails, that is the program's error.
+fn tell(output: &mut impl Write, out: &[u8; OUT], n: usize, more: bool) -> io::Result<bool> {
+    output.write_all(part(out, 0, n))?;
+    Ok(more)
 }
 
 // At the end, what no log expects, where a place of a lent list changed that had to keep what it held.
-fn tell_kept(kept: bool) {
+fn tell_kept(output: &mut impl Write, kept: bool) -> io::Result<()> {
     if kept {
-        return;
+        return Ok(());
     }
-    if !io::write_all(STDOUT_FILENO, b"lists changed\n") {
-        os::fail(b"replay: standard output");
-    }
+    output.write_all(b"lists changed\n")
 }
 
-// Reads to the end of the input, with turns counted down as above. The lists are lent with their lengths in the type, so no arm has to keep track of them.
+// Reads to the end of the input, with turns counted as above. The lists are lent with their lengths in the type, so no arm has to keep track of them.
 fn read_all(
+    source: &mut impl Read,
+    output: &mut impl Write,
     ids: &mut [u32; PLACES],
     kinds: &mut [u8; PLACES],
     due_kinds: &mut [u8; PLACES],
     indices: &mut [u64; PLACES],
     eras: &mut [u64; PLACES],
-) {
+) -> anyhow::Result<()> {
     let mut input = [0u8; INPUT];
     let mut bytes = [0u8; BYTES];
     let mut out = [0u8; OUT];
@@ -201,9 +176,8 @@ fn read_all(
         whole: false,
         more: true,
     };
-    let mut turns = u64::MAX;
-    while 0 < turns {
-        t = next_line(&mut input, t);
+    for _ in 0..u64::MAX {
+        t = next_line(source, &mut input, t).context("replay: standard input")?;
         let at = t.at;
         let end = t.end;
         let call = parse(&input[at..end], &mut bytes, host.started);
@@ -291,26 +265,30 @@ fn read_all(
                 host.said = said;
             }
         }
-        if !tell(&out, host.said, t.more) {
-            tell_kept(all_kept(ids, kinds, due_kinds, indices, eras));
-            return;
+        if !tell(output, &out, host.said, t.more).context("replay: standard output")? {
+            return Ok(());
         }
-        turns -= 1;
     }
+    Ok(())
 }
 
-// Reads all, with lists that hold the pattern.
-pub(crate) fn run() {
+// Reads all, with lists that hold the pattern. The lists are looked at also where reading or writing failed.
+pub(crate) fn run(source: &mut impl Read, output: &mut impl Write) -> anyhow::Result<()> {
     let mut ids = [ID; PLACES];
     let mut kinds = [KIND; PLACES];
     let mut due_kinds = [KIND; PLACES];
     let mut indices = [NUMBER; PLACES];
     let mut eras = [NUMBER; PLACES];
-    read_all(
+    let read = read_all(
+        source,
+        output,
         &mut ids,
         &mut kinds,
         &mut due_kinds,
         &mut indices,
         &mut eras,
     );
+    let kept = all_kept(&ids, &kinds, &due_kinds, &indices, &eras);
+    let told = tell_kept(output, kept).context("replay: standard output");
+    read.and(told)
 }

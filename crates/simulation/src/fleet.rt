@@ -73,26 +73,34 @@ impl Fleet {
     }
 
     // Says so where a call behind a step did not answer as it had to.
-    pub(crate) fn expect(mut self, step: u64, right: bool) -> Self {
-        self.going = crate::show::expect(self.going, step, right);
+    pub(crate) fn expect(mut self, rt: &(impl Print + Eprint), step: u64, right: bool) -> Self {
+        self.going = crate::show::expect(rt, self.going, step, right);
         self
     }
 
     // Takes a batch of an era and writes the step's line; nothing once writing has failed.
-    pub(crate) fn take(self, step: u64, era: u64, inner: u64, batch: Written) -> Self {
+    pub(crate) fn take(
+        self,
+        rt: &(impl Print + Eprint),
+        step: u64,
+        era: u64,
+        inner: u64,
+        batch: Written,
+    ) -> Self {
         if !self.going {
             return self;
         }
         let first = handle(self.replica(0), 0, era, inner, batch);
         let processed = first.processed;
         let f = self.lead(processed);
-        let g = f.follow(step, first, era, inner, batch);
-        g.tell(step, first)
+        let g = f.follow(rt, step, first, era, inner, batch);
+        g.tell(rt, step, first)
     }
 
     // Replica i alone is given a batch; then all are compared in what they hold, and the step's line is written.
     pub(crate) fn take_alone(
         mut self,
+        rt: &(impl Print + Eprint),
         step: u64,
         i: usize,
         era: u64,
@@ -109,8 +117,8 @@ impl Fleet {
         let state = processed.state;
         self.agree = true;
         let f = self.put(i, state);
-        let g = f.compare_states(step);
-        g.tell_alone(step, i, number(a))
+        let g = f.compare_states(rt, step);
+        g.tell_alone(rt, step, i, number(a))
     }
 
     // What the first replica answered.
@@ -123,44 +131,65 @@ impl Fleet {
     }
 
     // The other replicas take the batch.
-    fn follow(mut self, step: u64, first: Called, era: u64, inner: u64, batch: Written) -> Self {
+    fn follow(
+        mut self,
+        rt: &(impl Print + Eprint),
+        step: u64,
+        first: Called,
+        era: u64,
+        inner: u64,
+        batch: Written,
+    ) -> Self {
         let n = self.len();
         let mut i: usize = 1;
         while i < n {
             let b = handle(self.replica(i), i, era, inner, batch);
-            self = self.compared(step, first, i, b);
+            self = self.compared(rt, step, first, i, b);
             i += 1;
         }
         self
     }
 
     // What each replica holds, compared with what the first holds.
-    fn compare_states(mut self, step: u64) -> Self {
+    fn compare_states(mut self, rt: &(impl Print + Eprint), step: u64) -> Self {
         let n = self.len();
         let mut i: usize = 1;
         while i < n {
             let d = crate::compare::shared_difference(self.replica(0), self.replica(i));
-            self = self.differs(step, i, d);
+            self = self.differs(rt, step, i, d);
             i += 1;
         }
         self
     }
 
     // What replica i answered, compared with the first's answer.
-    fn compared(self, step: u64, first: Called, i: usize, b: Called) -> Self
+    fn compared(
+        self,
+        rt: &(impl Print + Eprint),
+        step: u64,
+        first: Called,
+        i: usize,
+        b: Called,
+    ) -> Self
         requires { i < replicas }
     {
         let other = b.processed;
         let state = other.state;
         let f = self.put(i, state);
-        f.differs(step, i, difference(first, b))
+        f.differs(rt, step, i, difference(first, b))
     }
 
     // Whether all agree still, after replica i was compared with the first; the first difference of a step is said.
-    pub(crate) fn differs(mut self, step: u64, i: usize, d: Difference) -> Self {
+    pub(crate) fn differs(
+        mut self,
+        rt: &(impl Print + Eprint),
+        step: u64,
+        i: usize,
+        d: Difference,
+    ) -> Self {
         let Difference::Nothing = d else {
             if self.agree {
-                self.going = crate::show::differ(self.going, step, i, d);
+                self.going = crate::show::differ(rt, self.going, step, i, d);
             }
             self.agree = false;
             return self;
@@ -169,18 +198,18 @@ impl Fleet {
     }
 
     // What replica i alone answered, where all agree.
-    fn tell_alone(mut self, step: u64, i: usize, refusal: u8) -> Self {
+    fn tell_alone(mut self, rt: &(impl Print + Eprint), step: u64, i: usize, refusal: u8) -> Self {
         if self.agree {
-            let still = crate::show::alone(self.going, step, i, refusal);
-            self.going = tell_network(still, self.replica(0));
+            let still = crate::show::alone(rt, self.going, step, i, refusal);
+            self.going = tell_network(rt, still, self.replica(0));
         }
         self
     }
 
     // What all answered, where they agree.
-    fn tell(mut self, step: u64, a: Called) -> Self {
+    fn tell(mut self, rt: &(impl Print + Eprint), step: u64, a: Called) -> Self {
         if self.agree {
-            self.going = tell(self.going, step, a);
+            self.going = tell(rt, self.going, step, a);
         }
         self
     }
@@ -294,17 +323,21 @@ fn shared_count(faults: Faults) -> usize {
 }
 
 // Era and roster of a replica, at the end of a line.
-pub(crate) fn tell_network(going: bool, state: DynamicHoneyBadger) -> bool {
+pub(crate) fn tell_network(
+    rt: &(impl Print + Eprint),
+    going: bool,
+    state: DynamicHoneyBadger,
+) -> bool {
     let counter = state.vote_counter;
     let map = counter.pub_keys;
-    crate::show::network(going, counter.era, map)
+    crate::show::network(rt, going, counter.era, map)
 }
 
 // A refused batch has no faults.
-fn tell(going: bool, step: u64, a: Called) -> bool {
+fn tell(rt: &(impl Print + Eprint), going: bool, step: u64, a: Called) -> bool {
     let processed = a.processed;
     let faults = a.faults;
-    let still = crate::show::agree(going, step, number(a), shared_count(faults));
+    let still = crate::show::agree(rt, going, step, number(a), shared_count(faults));
     let state = processed.state;
-    tell_network(still, state)
+    tell_network(rt, still, state)
 }

@@ -8,10 +8,17 @@ mod host;
 mod season;
 mod show;
 
-fn main() {
-    let f = season::start();
-    let grown = season::grow(f);
-    let shrunk = season::shrink(grown);
-    let ended = season::end(shrunk);
-    season::wait(ended);
+use std::process::ExitCode;
+
+// Where writing failed, that was said, and the exit status says so too.
+fn main(rt: HostRuntime) -> ExitCode {
+    let f = season::start(&rt);
+    let grown = season::grow(&rt, f);
+    let shrunk = season::shrink(&rt, grown);
+    let ended = season::end(&rt, shrunk);
+    if season::wait(&rt, ended) {
+        ExitCode::SUCCESS
+    } else {
+        ExitCode::FAILURE
+    }
 }
