@@ -1,0 +1,4 @@
+use Rattle.commit.proofs.tally.Tally.empty.Goals as goal
+
+pub returns : goal.returns
+returns c = rw c.empty.ensures

@@ -1,0 +1,16 @@
+use mathlib.Core.Path.{◌≡◌, refl, sym, ◌∙◌}
+use Prim.Native.Nat.{◌≤◌, ◌-◌}
+use native.Mathlib.Omega.{arith}
+use lib.ListN.{length, drop}
+use Rattle.lists.proofs.ListLaws.{rest_more}
+use Rattle.bincode.specs.Sizes.{base}
+use Rattle.commit.specs.Tally.{entries_of, no_entry, any_fresh}
+use Rattle.commit.proofs.TurnLaws.{fresh_here, fresh_past, fresh_end}
+use Rattle.commit.proofs.tally.Tally.has_fresh.Given as goal
+
+abbrev pub invariant-loop-i : goal.invariant-loop-i
+invariant-loop-i l =
+    (l.i ≤ l.n) × (l.n ≤ base.nodes) × (l.n ≡ length (entries_of l.self)) × (any_fresh (entries_of l.self) ≡ any_fresh (drop l.i (entries_of l.self)))
+
+abbrev pub decreases-loop-i : goal.decreases-loop-i
+decreases-loop-i l = l.n - l.i

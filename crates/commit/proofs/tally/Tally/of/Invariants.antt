@@ -1,0 +1,18 @@
+use mathlib.Core.Path.{◌≡◌, refl, ap, ◌∙◌}
+use Prim.Native.Nat.{◌≤◌, ◌<◌, ◌-◌}
+use native.Mathlib.Omega.{arith}
+use lib.ListN.{length, length-map, length-take}
+use Rattle.bincode.specs.Sizes.{base}
+use Rattle.filled.proofs.FillLaws.{FilledTo, fill_length, fill_start, fill_store, fill_end}
+use Rattle.votes.specs.Votes.{signed_of}
+use Rattle.signed_votes.specs.SignedVotes.{held}
+use Rattle.commit.specs.declared.tally.Tally.{Tally}
+use Rattle.commit.proofs.TurnLaws.{kept_of, kept_filled}
+use Rattle.commit.proofs.tally.Tally.of.Given as goal
+
+abbrev pub invariant-loop-i : goal.invariant-loop-i
+invariant-loop-i l =
+    (l.i ≤ l.n) × (l.n ≤ base.nodes) × (l.n ≡ length (held l.votes)) × (length l.initial.t.entries ≡ base.nodes) × FilledTo kept_of l.votes.votes l.votes.count l.initial.t.entries l.i l.t.entries
+
+abbrev pub decreases-loop-i : goal.decreases-loop-i
+decreases-loop-i l = l.n - l.i

@@ -1,0 +1,14 @@
+use mathlib.Core.Path.{◌≡◌}
+use Prim.Native.Nat.{◌≤◌, ◌<◌}
+use native.Mathlib.Omega.{arith}
+use lib.ListN.{length, length-map, length-set, length-take}
+use Rattle.lists.proofs.SortedLaws.{Shifted, shift_start, shift_down, shift_done}
+use Rattle.bincode.specs.Sizes.{base}
+use Rattle.commit.proofs.tally.Tally.shift.Given as goal
+
+abbrev pub invariant-loop-j : goal.invariant-loop-j
+invariant-loop-j l =
+    (l.at ≤ l.j) × (l.j ≤ l.n) × (l.n < base.nodes) × (length l.self.entries ≡ base.nodes) × (h : l.n < length l.initial.self.entries) × Shifted l.initial.self.entries l.n h l.j l.self.entries
+
+abbrev pub decreases-loop-j : goal.decreases-loop-j
+decreases-loop-j l = l.j

@@ -1,0 +1,17 @@
+use Prim.Native.Nat.{ℕ, ◌+◌, ◌≤◌, ◌-◌}
+use mathlib.Core.Path.{◌≡◌, refl, sym, ◌∙◌}
+use mathlib.Core.List.{List, map}
+use native.Mathlib.Omega.{arith}
+use lib.ListN.{drop, get_or}
+use Rattle.key_gen_message.specs.KeyGenMessage.{signed_of}
+use Rattle.steps.specs.Kept.{is_none}
+use Rattle.store_filter.specs.Filter.{Entry, message_in, Listed}
+use Rattle.store_filter.proofs.FilterLaws.{no_entry, id_at, first_at, place_at, read_at, search_hit, search_miss, search_end}
+use Rattle.store_filter.proofs.is_committed.Given as goal
+
+abbrev pub invariant-loop-i : goal.invariant-loop-i
+invariant-loop-i l =
+    (l.i ≤ l.n) × ((es : List Entry) → Listed l.s es l.n l.ids l.firsts l.places → is_none (map message_in es) (signed_of l.x) ≡ is_none (map message_in (drop l.i es)) (signed_of l.x))
+
+abbrev pub decreases-loop-i : goal.decreases-loop-i
+decreases-loop-i l = l.n - l.i

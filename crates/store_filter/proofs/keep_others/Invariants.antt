@@ -1,0 +1,20 @@
+use Prim.Native.Nat.{ℕ, ◌+◌, ◌≤◌, ◌-◌}
+use mathlib.Core.Path.{◌≡◌, sym, ◌∙◌}
+use mathlib.Core.Logic.{⊎_elim}
+use mathlib.Core.List.{List, map}
+use native.Mathlib.Omega.{arith}
+use lib.ListN.{length, length-set, length-map}
+use Rattle.lists.proofs.KeptLaws.{Keeping, keep_start, keep_yes, keep_no, keep_end}
+use Rattle.bincode.specs.Sizes.{base}
+use Rattle.key_gen_message.specs.KeyGenMessage.{signed_of}
+use Rattle.steps.specs.Kept.{is_none}
+use Rattle.store_filter.specs.Filter.{Entry, message_in, without_entries, Listed}
+use Rattle.store_filter.proofs.keep_others.Given as goal
+
+abbrev pub invariant-loop-i : goal.invariant-loop-i
+invariant-loop-i l =
+    (l.kept ≤ l.i) × (l.i ≤ l.n) × (l.n ≤ base.store) × (length l.store.messages ≡ base.store)
+    × ((es : List Entry) → Listed l.s es l.m l.ids l.firsts l.places → Keeping signed_of (is_none (map message_in es)) l.initial.store.messages l.initial.store.count base.store l.n l.store.messages l.kept l.i)
+
+abbrev pub decreases-loop-i : goal.decreases-loop-i
+decreases-loop-i l = l.n - l.i

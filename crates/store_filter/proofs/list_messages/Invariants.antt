@@ -1,0 +1,23 @@
+use Prim.Native.Nat.{ℕ, ◌+◌, ◌≤◌, ◌-◌}
+use mathlib.Core.Path.{◌≡◌, refl, sym, ap, ◌∙◌}
+use mathlib.Core.List.{List}
+use native.Mathlib.Omega.{arith}
+use native.Mathlib.Nat.{sub-zero}
+use Rattle.bincode.specs.Sizes.{base}
+use Rattle.bincode.specs.Items.{foldl}
+use Rattle.bincode.proofs.ReadLaws.{held_next, step_refused}
+use Rattle.key_gen_message.specs.declared.MessageHead.{MessageHead}
+use Rattle.key_gen_message.specs.declared.ReadHead.{ReadHead}
+use Rattle.key_gen_message.specs.KeyGenMessage.{read_signed_key_gen_msg, no_signed}
+use Rattle.key_gen_message.specs.Head.{head_of}
+use Rattle.store_filter.specs.Filter.{Entry, entries_from, listed, Listed, Room}
+use Rattle.store_filter.proofs.FilterLaws.{entries_more, entries_refused, entries_end}
+use Rattle.store_filter.proofs.list_messages.Given as goal
+
+abbrev pub invariant-loop-i : goal.invariant-loop-i
+invariant-loop-i l =
+    Room l.ids l.firsts l.places × (l.m ≤ base.items) × ((es : List Entry) → Listed l.s es l.n l.initial.ids l.initial.firsts l.initial.places
+    → (fs : List Entry) × Listed l.s fs l.m l.ids l.firsts l.places × (foldl listed fs (entries_from l.s (l.k - l.i) l.c) ≡ foldl listed es (entries_from l.s l.k l.at)))
+
+abbrev pub decreases-loop-i : goal.decreases-loop-i
+decreases-loop-i l = l.k - l.i
