@@ -118,16 +118,15 @@ def antt(text, plain, apart):
 
 def source(text, plain, apart):
     """Ghost lines and clauses alone: code keeps its names."""
-    out, inside = [], False
+    out, depth = [], 0
     for line in text.split("\n"):
         head = line.lstrip()
         if head.startswith("//"):
             out.append(in_comment(line, plain, apart))
             continue
-        ghost = head.startswith(("ghost", "requires", "ensures"))
-        if ghost or inside:
+        if depth or head.startswith(("ghost", "requires", "ensures")):
             out.append(respell(line, plain, apart))
-            inside = (line.count("{") > line.count("}")) if ghost else inside and line.count("{") >= line.count("}")
+            depth += line.count("{") - line.count("}")
         else:
             out.append(line)
     return "\n".join(out)

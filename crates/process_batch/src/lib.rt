@@ -389,11 +389,11 @@ pub fn process_batch(
         })
         result
         (record {
-          fault-ids = fault_ids.new;
-          fault-kinds = fault_kinds.new;
-          due-kinds = due_kinds.new;
-          due-indices = due_indices.new;
-          due-eras = due_eras.new;
+          fault_ids = fault_ids.new;
+          fault_kinds = fault_kinds.new;
+          due_kinds = due_kinds.new;
+          due_indices = due_indices.new;
+          due_eras = due_eras.new;
         }) }
 {
     let mut ids = [0u32; FaultLog::LIMIT];

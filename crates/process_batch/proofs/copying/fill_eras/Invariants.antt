@@ -1,0 +1,11 @@
+use borrow.Author.Rules.{rules, scaled_Fits}
+use Prim.Native.Nat.{◌-◌}
+use lib.ListN.{length, replicate}
+use Rattle.process_batch.proofs.CopyLaws.{PutTo, put_start, put_length, fill_within, fill_place, fill_turn, fill_end}
+use Rattle.process_batch.proofs.copying.fill_eras.Given as goal
+
+abbrev pub invariant-loop-i : goal.invariant-loop-i
+invariant-loop-i l = PutTo (replicate l.n l.x) l.initial.to l.i l.to
+
+abbrev pub decreases-loop-i : goal.decreases-loop-i
+decreases-loop-i l = l.end - l.i
