@@ -18,7 +18,10 @@ TOKEN = re.compile(r"[A-Za-z_][A-Za-z0-9_'′₀-₉-]*")
 
 # Lemmas that would have the name of a definition, in a file that has both.
 # A lemma whose name a field has too is told apart in the one file where a definition has the name.
-IN_FILE = {"crates/dynamic_honey_badger/proofs/PageMessageLaws.antt": {"is-key": "is_key_lem"}}
+IN_FILE = {
+    "crates/dynamic_honey_badger/proofs/PageMessageLaws.antt": {"is-key": "is_key_lem"},
+    "crates/agreement/proofs/StepLaws.antt": {"by-key-gen": "by_key_gen_lem"},
+}
 TOLD_APART = {"worked-out": "board_worked_out", "with_params": "with_params_lem", "decide_by": "decide_by_lem"}
 
 

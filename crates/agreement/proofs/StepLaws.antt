@@ -221,9 +221,9 @@ module _ (z : Sizes) (p : ℕ) (w : WorkOf) (m : SignedKeyGenMsgOf) (room : leng
   unexpected_shared (part q) = blame_shared z m.id UnexpectedKeyGenPart (message_left w m nothing) room refl
   unexpected_shared (ack a) = blame_shared z m.id UnexpectedKeyGenAck (message_left w m nothing) room refl
 
-  by_key_gen : (g : Found KeyGenStateOf) (v : ℕ) → ref_work (settled z p (judged w) m (by_key_gen m v g)) ≡ ref_handled (ref_left w g) m (map_found candidate_ref g)
-  by_key_gen (found g) v = handled_shared g v m.message
-  by_key_gen nothing v = unexpected_shared m.message
+  by_key_gen_lem : (g : Found KeyGenStateOf) (v : ℕ) → ref_work (settled z p (judged w) m (by_key_gen m v g)) ≡ ref_handled (ref_left w g) m (map_found candidate_ref g)
+  by_key_gen_lem (found g) v = handled_shared g v m.message
+  by_key_gen_lem nothing v = unexpected_shared m.message
 
   -- whatever its verdict is
   pub message_shared : ref_work (committed_message z p w m) ≡ ref_message p (ref_work w) m
@@ -241,7 +241,7 @@ module _ (z : Sizes) (p : ℕ) (w : WorkOf) (m : SignedKeyGenMsgOf) (room : leng
           ≡ cond a
           (cond b (ref_handled (ref_left w g) m (map_found candidate_ref g)) (blamed p InvalidKeyGenMessageSignature (ref_left w g)))
           (blamed p InvalidKeyGenMessageEra (ref_left w g))
-      go true true g = by_key_gen g (first_verdict w.verdicts)
+      go true true g = by_key_gen_lem g (first_verdict w.verdicts)
       go true false g = blame_shared z p InvalidKeyGenMessageSignature (message_left w m g) room refl
       go false b g = blame_shared z p InvalidKeyGenMessageEra (message_left w m g) room refl
 
