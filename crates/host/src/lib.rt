@@ -94,9 +94,9 @@ fn process_first(
     due_eras: &mut [u64],
 ) -> Processed
     requires { (places ≤ length ids.old) × (places ≤ length kinds.old) }
-    ensures { FirstDone state batch_era inner batch.now verdicts.now places ids.old kinds.entry.now
+    ensures { FirstDone state batch_era inner batch.now verdicts.now places ids.old kinds.old
         (record { kinds = due_kinds.old; indices = due_indices.old; eras = due_eras.old })
-        result ids.new kinds.exit.now
+        result ids.new kinds.new
         (record { kinds = due_kinds.new; indices = due_indices.new; eras = due_eras.new }) }
 {
     process_batch::process_batch(

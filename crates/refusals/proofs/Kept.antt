@@ -20,7 +20,7 @@ use Rattle.key_gen_message.specs.KeyGenMessage.{SignedKeyGenMsgOf}
 use Rattle.message.specs.Message.{MessageContent, key_gen, signed_vote, read_message}
 use Rattle.message_store.specs.MessageStore.{pushed}
 use Rattle.node_change.specs.NodeChange.{row13, without_node}
-use Rattle.dynamic_honey_badger.specs.State.{StateOf, era_of, nodes_in, is_validator, valid_signature}
+use Rattle.dynamic_honey_badger.specs.State.{StateOf, era_of, nodes_in, with_key_gen, is_validator, valid_signature}
 use Rattle.dynamic_honey_badger.specs.OwnVotes.{VotedOf, signed_in, vote_for, vote_for_read, vote_for_bytes, vote_to_add, vote_to_remove}
 use Rattle.dynamic_honey_badger.specs.Received.{refusal, HandledOf, voted_in, stored_in, key_gen_in, received_key_gen, signed_by, message_era, received_now, received_content, received_read, received, read_due_item, returned_key_gen, returned_read, returned}
 use Rattle.process_output.specs.Process.{BatchCall, ProcessedOf, processed}
@@ -85,7 +85,7 @@ module _ (z : Sizes) (s : StateOf) where
   key_gen_kept m = either MessageKept (valid_signature s m.id m.sig) (go s.key_gen) (λ n e. refl)
     where
       go : (g : Found KeyGenStateOf) → MessageKept (key_gen_in z s m g)
-      go (found g) = either MessageKept (ltb (node_count g.key_gen + 1) (count_messages z (nodes_in s) g m.id).count) (quiet_kept _ refl) (stored_kept _ (pushed z s.store m))
+      go (found g) = either MessageKept (ltb (node_count g.key_gen + 1) (count_messages z (nodes_in s) g m.id).count) (quiet_kept _ refl) (stored_kept (with_key_gen s (found (count_messages z (nodes_in s) g m.id).state)) (pushed z s.store m))
       go nothing = λ n e. refl
 
   pub message_refused : (sender : ℕ) (bytes : List ℕ) (n : ℕ) → (received z s sender bytes).effect ≡ refusal n → (received z s sender bytes).state ≡ s

@@ -1,0 +1,18 @@
+use native.Mathlib.Omega.{arith}
+use mathlib.Core.Path.{◌≡◌, sym}
+use lib.ListN.{length, length-map}
+use Rattle.lists.proofs.ListLaws.{length_live}
+use Rattle.bincode.specs.Sizes.{base}
+use Rattle.host.proofs.record_count.Goals as goal
+
+pub returns-then-n-lt-LIMIT : goal.returns-then-n-lt-LIMIT
+returns-then-n-lt-LIMIT c =
+    let m = c.args.records in
+    let l : length m.items ≡ base.faults = c.well_formed.0.1.1.1.0.1.0.1 in
+    (sym ((length_live m.items m.count base.faults l).0 (omega arith)), omega arith)
+
+pub returns-else-n-lt-LIMIT : goal.returns-else-n-lt-LIMIT
+returns-else-n-lt-LIMIT c =
+    let m = c.args.records in
+    let l : length m.items ≡ base.faults = c.well_formed.0.1.1.1.0.1.0.1 in
+    (sym ((length_live m.items m.count base.faults l).1 (omega arith)), omega arith)
