@@ -22,7 +22,7 @@ use Rattle.dynamic_honey_badger.specs.State.{StateOf, key_gen_for, opened, start
 use Rattle.reference.specs.Reference.{RefState, open_ref}
 use Rattle.reference.specs.Step.{ref_run, ref_answers}
 use Rattle.agreement.specs.Shared.{ref_of, plan_candidate, plan_ref}
-use Rattle.agreement.specs.Calls.{Call, shared_batches, answers, Start, new_start, join_start, joined_state, start_state}
+use Rattle.agreement.specs.Calls.{Call, shared_batches, Start, new_start, join_start, joined_state, start_state}
 use Rattle.agreement.specs.Claim.{opened_by, planned_by, ref_start, FollowsFrom, FollowsStart, Agree}
 use Rattle.agreement.proofs.Follow.{follows}
 

@@ -37,7 +37,6 @@ use Rattle.internal_contrib.specs.InternalContrib.{ContribOf, spending, opening,
 use Rattle.internal_contrib.proofs.ContribCodes.{batch_one_encoding}
 use Rattle.dynamic_honey_badger.specs.Asked.{row5}
 use Rattle.dynamic_honey_badger.specs.State.{StateOf, era_of, nodes_in, with_key_gen, with_store, with_params, candidate_nodes, valid_under, new_era, fresh_key_gen, key_gen_for, part_due}
-use Rattle.dynamic_honey_badger.specs.Received.{quiet, fault}
 use Rattle.steps.specs.Steps as steps
 use Rattle.steps.specs.Steps.{WorkOf, with_state, voted_as as countedAs, committed_vote, Told, owed, blamed_proposer, blamed_signer, MessageDoneOf, done_as, by_key_gen, message_done, applied, first_verdict, judged, committed_message, committed_contrib, begun, committed}
 use Rattle.decision.specs.Decision.{Decided, decided_as, completed_by, is_candidate, map_wins, with_schedule, schedule_wins, elected_by, decide, is_empty_map, empty_wins}

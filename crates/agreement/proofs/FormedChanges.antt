@@ -7,14 +7,13 @@ use mathlib.Core.Bool.{false}
 use native.Mathlib.Omega.{arith}
 use lib.ListN.{length}
 use borrow.Author.Tests.{lt-leb}
-use Rattle.lists.specs.Lists.{Found, nothing}
+use Rattle.lists.specs.Lists.{Found}
 use Rattle.bincode.specs.Sizes.{Sizes}
 use Rattle.bincode.specs.Stands.{All}
 use Rattle.pub_key_map.specs.declared.Node.{Node}
 use Rattle.params.specs.declared.Params.{Params}
 use Rattle.params.specs.Params.{ParamsOk}
 use Rattle.votes.specs.Votes.{SignedVoteOf}
-use Rattle.vote_counter.specs.VoteCounter as counter
 use Rattle.vote_counter.specs.VoteCounter.{with_pending, with_committed}
 use Rattle.vote_counter.proofs.BoardKept.{worked_none}
 use Rattle.board.specs.declared.BoardRow.{BoardRow}
@@ -23,7 +22,6 @@ use Rattle.key_gen_state.specs.KeyGenState.{KeyGenStateOf}
 use Rattle.key_gen_message.specs.KeyGenMessage.{SignedKeyGenMsgOf, SignedOk}
 use Rattle.message_store.specs.MessageStore.{is_recent, from_era}
 use Rattle.dynamic_honey_badger.specs.State.{StateOf, Stamp, era_of, nodes_in, with_counter, with_key_gen, with_store, with_params, with_last, new_era}
-use Rattle.steps.specs.Steps as steps
 use Rattle.agreement.specs.Formed.{MapFormed, VotesFormed, RunningFormed, StampFits, Formed}
 use Rattle.agreement.proofs.AllLaws.{all_then, filter_none}
 use Rattle.agreement.proofs.FormedParts.{no_votes}

@@ -2,10 +2,10 @@
 -- Assumes nothing.
 use Prim.Native.Nat.{ℕ, ◌^◌, ◌<◌}
 use mathlib.Core.Path.{◌≡◌, refl, sym, subst}
-use mathlib.Core.List.{List, [], ◌∷◌, map}
+use mathlib.Core.List.{List, [], ◌∷◌}
 use mathlib.Core.Bool.{Bool, true, false, cond}
 use native.Mathlib.Omega.{arith}
-use Rattle.lists.specs.Lists.{found, nothing}
+use Rattle.lists.specs.Lists.{found}
 use Rattle.bincode.specs.Read.{Read, value, refuse, whole}
 use Rattle.bincode.specs.Outcome.{Outcome, done, refused}
 use Rattle.bincode.specs.Numbers.{fixed}
@@ -20,13 +20,10 @@ use Rattle.params.specs.declared.Params.{Params}
 use Rattle.params.specs.Params.{read_params, params_bytes, ParamsOk}
 use Rattle.params.proofs.ParamsCodes.{params_codes}
 use Rattle.change.specs.Change.{node_change, encryption_schedule, ChangeStateOf, none, in_progress, complete, StateOk}
-use Rattle.vote_counter.specs.VoteCounter as counter
-use Rattle.message_store.specs.MessageStore.{without}
 use Rattle.join_plan.specs.JoinPlan.{PlanOf, PlanOk}
 use Rattle.join_plan.proofs.PlanCodes.{plan_one_encoding}
 use Rattle.joining.specs.Starting.{reading, is_empty, key_row2, empty_progress, join_row8, join_checked, start_map, start_checked}
 use Rattle.dynamic_honey_badger.specs.State.{StateOf, fresh_key_gen, key_gen_for, opened, started_from, started, joined_by, joined_with, joined_from, joined}
-use Rattle.steps.specs.Steps as steps
 use Rattle.vote_counter.proofs.BoardKept.{worked_none}
 use Rattle.agreement.specs.Calls.{Call, batch_call, vote_call, add_call, remove_call, message_call, due_call, after, run, Start, new_start, join_start, joined_state, start_state}
 use Rattle.agreement.specs.Formed.{MapFormed, Formed, CallFits, StartFits}

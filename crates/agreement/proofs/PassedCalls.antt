@@ -9,7 +9,7 @@ use native.Mathlib.Omega.{arith}
 use lib.Dec.{eqb}
 use borrow.Author.Tests.{eqb-true, eq-eqb, ne_eqb, not-false}
 use Rattle.lists.proofs.ListLaws.{false_true}
-use Rattle.bincode.specs.Outcome.{Outcome, done, refused}
+use Rattle.bincode.specs.Outcome.{Outcome, done}
 use Rattle.bincode.specs.Sizes.{Sizes}
 use Rattle.bincode.proofs.ReadLaws.{or_false}
 use Rattle.dynamic_honey_badger.specs.State.{StateOf, era_of}

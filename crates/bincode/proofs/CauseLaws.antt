@@ -11,7 +11,6 @@ use lib.ListN.{length}
 use borrow.Author.Tests.{eqb-true, eqb-false, ltb-true, ltb-false}
 use Rattle.bincode.specs.Read.{Read, value, refuse, bind, whole}
 use Rattle.bincode.specs.Numbers.{read_num, fixed}
-use Rattle.bincode.specs.Items.{after, items}
 use Rattle.bincode.specs.Stands.{Bytes}
 use Rattle.bincode.specs.Codes.{Codes}
 use Rattle.bincode.specs.Causes.{Cause, cut, left_over, unknown_tag, cause_number, Wrong, Unknown, Short, Unless, fails, passes, Case, this, other, Field, here, behind, Whole, Caused, Causes, NumberCauses}

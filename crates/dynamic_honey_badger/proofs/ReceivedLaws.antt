@@ -19,7 +19,7 @@ use Rattle.key_gen_message.proofs.MessageLaws.{held_message}
 use Rattle.message_store.specs.MessageStore.{pushed}
 use Rattle.message.specs.Message.{MessageContent, key_gen, signed_vote, content_of, content_held}
 use Rattle.dynamic_honey_badger.specs.declared.Handling.TheVariants as handling
-use Rattle.dynamic_honey_badger.specs.Received.{quiet, fault, refusal, handled_as, stored_in, counted_in, key_gen_in, received_key_gen, message_era, received_now, received_content, received}
+use Rattle.dynamic_honey_badger.specs.Received.{quiet, fault, handled_as, stored_in, counted_in, key_gen_in, received_key_gen, message_era, received_now, received_content}
 use Rattle.dynamic_honey_badger.specs.State.{StateOf, era_of, nodes_in, with_key_gen, valid_signature}
 
 -- neither quiet nor a fault is a refusal

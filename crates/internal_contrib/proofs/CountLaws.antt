@@ -6,7 +6,7 @@ use mathlib.Core.List.{List, [], ◌∷◌, ◌++◌}
 use lib.ListN.{length}
 use Rattle.bincode.specs.Read.{Read, value, refuse, number_of, map_read}
 use Rattle.bincode.specs.Numbers.{fixed, read_num}
-use Rattle.bincode.specs.Items.{items, counted, after, plain, stay, many}
+use Rattle.bincode.specs.Items.{counted, after, plain, stay, many}
 use Rattle.bincode.specs.Answer.{step_of, said_step}
 use Rattle.bincode.specs.declared.Step.{Step}
 use Rattle.bincode.specs.declared.Step.TheVariants.{Next, Refused}

@@ -1,5 +1,5 @@
 -- Key generation: parts and acks (01, step 5), completeness and readiness (01, step 6).
-use Rattle.std.specs.Prelude.{ℕ, ◌*◌, List, [], map, Bool, true, false, not, cond, ◌&&◌, length, replicate, ltb, eqb}
+use Rattle.std.specs.Prelude.{ℕ, ◌*◌, List, [], Bool, true, false, not, cond, ◌&&◌, length, replicate, ltb, eqb}
 use Rattle.lists.specs.Lists.{Found, found, nothing, lookup, insert, marked, filter}
 use Rattle.util.specs.MaxFaulty.{max_faulty}
 use Rattle.bincode.specs.Sizes.{base}

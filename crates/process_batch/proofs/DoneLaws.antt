@@ -17,7 +17,6 @@ use Rattle.due.specs.declared.DueItem.{DueItem}
 use Rattle.params.specs.declared.Params.{Params}
 use Rattle.key_gen_message.specs.KeyGenMessage.{SignedKeyGenMsgOf}
 use Rattle.key_gen_state.specs.declared.KeyGenState.{KeyGenState}
-use Rattle.key_gen_state.specs.KeyGenState as running
 use Rattle.vote_counter.specs.declared.VoteCounter.{VoteCounter}
 use Rattle.message_store.specs.MessageStore.{store_of}
 use Rattle.dynamic_honey_badger.specs.declared.DynamicHoneyBadger.{DynamicHoneyBadger}

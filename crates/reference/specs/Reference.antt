@@ -1,6 +1,6 @@
 -- 01, "What two boxes share": the book. It is fed the start and the shared batches only, nothing of a node's own. Plain lists: nodes by ascending id, votes by
 -- ascending voter, parts by ascending proposer, acknowledgers ascending.
-use Rattle.std.specs.Prelude.{ℕ, List, [], map}
+use Rattle.std.specs.Prelude.{ℕ, List, []}
 use Rattle.lists.specs.Lists.{Found, nothing}
 use Rattle.pub_key_map.specs.declared.Node.{Node}
 use Rattle.params.specs.declared.Params.{Params}

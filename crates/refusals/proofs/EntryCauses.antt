@@ -9,7 +9,7 @@ use mathlib.Core.Bool.{false, ◌||◌}
 use lib.Dec.{lit<, eqb}
 use borrow.Author.Tests.{eqb-false}
 use Rattle.lists.proofs.ListLaws.{false_true}
-use Rattle.lists.specs.Lists.{found, nothing}
+use Rattle.lists.specs.Lists.{found}
 use Rattle.bincode.specs.Read.{Read, value, refuse, whole}
 use Rattle.bincode.specs.Outcome.{Outcome, done, refused}
 use Rattle.bincode.specs.Numbers.{fixed}

@@ -12,7 +12,6 @@ use Rattle.bincode.specs.Numbers.{fixed}
 use Rattle.bincode.specs.Sizes.{Sizes}
 use Rattle.change.specs.Change.{ChangeOf, node_change, read_change}
 use Rattle.signed_votes.specs.SignedVotes.{voter_of, num_of}
-use Rattle.vote_counter.specs.VoteCounter as counter
 use Rattle.vote_counter.specs.VoteCounter.{next_num, signed_with, sign_vote_for, add_pending}
 use Rattle.key_gen.specs.KeyGen.{node_count}
 use Rattle.key_gen_state.specs.KeyGenState.{KeyGenStateOf, count_messages}

@@ -6,7 +6,7 @@ use mathlib.Core.Logic.{◌⊎◌, inl}
 use mathlib.Core.List.{List}
 use lib.Dec.{ltb, eqb}
 use lib.ListN.{length}
-use Rattle.bincode.specs.Read.{Read, value, refuse, whole}
+use Rattle.bincode.specs.Read.{Read, refuse, whole}
 use Rattle.bincode.specs.Numbers.{read_num, fixed}
 use Rattle.bincode.specs.Sizes.{Sizes}
 use Rattle.pub_key_map.specs.PubKeyMap.{read_map}

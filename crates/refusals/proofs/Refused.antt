@@ -32,11 +32,10 @@ use Rattle.internal_contrib.specs.InternalContrib.{ContribOf, read_batch}
 use Rattle.dynamic_honey_badger.specs.Asked.{row5}
 use Rattle.dynamic_honey_badger.specs.State.{StateOf, era_of, nodes_in, is_validator, valid_signature, started_from, started, joined_from, joined}
 use Rattle.dynamic_honey_badger.specs.OwnVotes.{VotedOf, voted_as, signed_in, vote_for, vote_for_read, vote_for_bytes, vote_to_add, vote_to_remove}
-use Rattle.dynamic_honey_badger.specs.Received.{quiet, fault, refusal, HandledOf, handled_as, voted_in, stored_in, key_gen_in, received_key_gen, signed_by, received_content, received_read, received, read_due_item, returned_key_gen, returned_read, returned}
+use Rattle.dynamic_honey_badger.specs.Received.{quiet, fault, HandledOf, handled_as, voted_in, stored_in, key_gen_in, received_key_gen, signed_by, received_content, received_read, received, read_due_item, returned_key_gen, returned_read, returned}
 use Rattle.process_output.specs.Refusals.{batch_row1, batch_row4, batch_row15, batch_row7}
 use Rattle.process_output.specs.Process.{BatchCall, ProcessedOf, processed_contribs, processed_read, processed}
 use Rattle.refusals.specs.Table.{row, first_row, refusal_of, refusal_in, reads_to, of_read, start_rows, join_rows, is_last, row11, vote_rows, add_rows, remove_rows, comes_to_store, message_row12, message_rows, due_row12, due_rows, batch_rows}
-use Rattle.refusals.proofs.FirstRow.{never}
 use Rattle.refusals.proofs.Reading.{IsKeyGen, whole_params, whole_map, whole_plan, whole_change, whole_message, whole_due_item, whole_batch}
 use Rattle.refusals.proofs.Rows.{by_row, unasked_row, no_row, by_read}
 

@@ -8,8 +8,6 @@ use mathlib.Core.Bool.{Bool, true, false, cond}
 use lib.Dec.{eqb}
 use Rattle.lists.specs.Lists.{Found, found, nothing}
 use Rattle.bincode.specs.Read.{Read, value, refuse}
-use Rattle.vote_counter.specs.VoteCounter as counter
-use Rattle.joining.specs.Starting.{reading}
 use Rattle.agreement.proofs.ReadingLaws.{Answers}
 use Rattle.refusals.specs.Table.{Row, row, first_row, reads_to}
 

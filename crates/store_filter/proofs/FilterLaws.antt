@@ -3,14 +3,14 @@
 use Prim.Native.Nat.{ℕ, zero, suc, ◌+◌, ◌-◌, ◌≤◌, ◌<◌}
 use mathlib.Core.Path.{◌≡◌, refl, sym, ap, ◌∙◌}
 use mathlib.Core.List.{List, [], ◌∷◌, ◌++◌, map, map-append}
-use mathlib.Core.Bool.{Bool, true, false, not, ◌&&◌}
+use mathlib.Core.Bool.{Bool, true, false}
 use native.Mathlib.Omega.{arith}
 use native.Mathlib.Numerals.{add-one}
 use lib.ListN.{length, take, drop, get_or, set, length-append, length-take, get_or-map}
 use lib.Seq.{drop-cons, take_all, take-suc, take-suc-set, get_or-take}
 use Rattle.lists.specs.Lists.{filter}
 use Rattle.lists.proofs.ListLaws.{rest_none}
-use Rattle.bincode.specs.Read.{Read, value, refuse}
+use Rattle.bincode.specs.Read.{value, refuse}
 use Rattle.bincode.specs.Sizes.{base}
 use Rattle.bincode.specs.Items.{foldl}
 use Rattle.bincode.proofs.NumberLaws.{read_cut}
@@ -20,15 +20,14 @@ use Rattle.sync_key_gen.specs.declared.Handles.{Handles}
 use Rattle.key_gen_message.specs.declared.KeyGenKind.{KeyGenKind}
 use Rattle.key_gen_message.specs.declared.KeyGenKind.TheVariants.{Part, Ack}
 use Rattle.key_gen_message.specs.declared.SignedKeyGenMsg.{SignedKeyGenMsg}
-use Rattle.key_gen_message.specs.KeyGenMessage.{SignedKeyGenMsgOf, read_signed_key_gen_msg, same_signed, signed_of, signed_held, no_signed, message_of_kind}
+use Rattle.key_gen_message.specs.KeyGenMessage.{SignedKeyGenMsgOf, read_signed_key_gen_msg, same_signed, signed_of, no_signed, message_of_kind}
 use Rattle.key_gen_message.specs.Head.{body_of}
 use Rattle.key_gen_message.proofs.MessageLaws.{signed_true}
 use Rattle.internal_contrib.specs.declared.Contrib.{Contrib}
 use Rattle.internal_contrib.specs.Index.{no_contrib}
-use Rattle.message_store.specs.MessageStore.{is_other}
 use Rattle.steps.specs.Kept.{is_none}
 use Rattle.steps.proofs.KeepLaws.{without_all}
-use Rattle.store_filter.specs.Filter.{Entry, entries_from, listed, contrib_listed, entries_in, message_in, without_entries, entry_id, entry_first, entry_place, first_of, number_in, ReadAt, AllRead, Listed, Room}
+use Rattle.store_filter.specs.Filter.{Entry, entries_from, listed, contrib_listed, entries_in, message_in, without_entries, entry_id, entry_first, entry_place, number_in, ReadAt, AllRead, Listed, Room}
 
 -- what a read past the list would give
 abbrev pub no_entry : Entry

@@ -1,7 +1,7 @@
 -- Laws of handles, parts and acks: their lengths in bytes, equality of handles, and what an answer that holds handles tells.
 -- Assumes nothing.
 use Prim.Native.Nat.{ℕ, ◌+◌, ◌*◌}
-use mathlib.Core.Path.{◌≡◌, refl, sym, ap, ◌∙◌}
+use mathlib.Core.Path.{◌≡◌, refl}
 use mathlib.Core.List.{List, [], ◌∷◌}
 use mathlib.Core.Bool.{true}
 use native.Mathlib.Omega.{arith}
@@ -9,15 +9,10 @@ use lib.Dec.{eqb}
 use lib.ListN.{length, length-append}
 use borrow.Author.Tests.{eq-eqb, eqb-true}
 use Rattle.lists.proofs.ListLaws.{eq_list_true, eq_list_refl}
-use Rattle.bincode.specs.Read.{Read, value, refuse}
 use Rattle.bincode.specs.Numbers.{bytes_of}
 use Rattle.bincode.specs.Stands.{concat_map}
-use Rattle.bincode.specs.Answer.{held_of}
-use Rattle.bincode.specs.declared.Step.TheVariants.{Next, Refused}
 use Rattle.bincode.proofs.NumberLaws.{length_bytes_of}
-use Rattle.bincode.proofs.ReadLaws.{step_next, step_refused}
-use Rattle.sync_key_gen.specs.declared.ReadHandles.{ReadHandles}
-use Rattle.sync_key_gen.specs.SyncKeyGen.{handles_held, handles_answer, same_handles, PartOf, AckOf, handles_bytes, part_bytes, ack_bytes}
+use Rattle.sync_key_gen.specs.SyncKeyGen.{same_handles, PartOf, AckOf, handles_bytes, part_bytes, ack_bytes}
 
 length_values : (xs : List ℕ) → length (concat_map (bytes_of 8) xs) ≡ 8 * length xs
 length_values [] = refl

@@ -9,7 +9,7 @@ use native.Mathlib.Omega.{arith}
 use lib.Dec.{ltb, eqb}
 use lib.ListN.{length}
 use borrow.Author.Tests.{lt-ltb, le-ltb, eqb-true}
-use Rattle.lists.specs.Lists.{found, nothing, map_found, lookup, has_key, insert, insert_within, takes_place}
+use Rattle.lists.specs.Lists.{found, map_found, lookup, has_key, insert, insert_within, takes_place}
 use Rattle.lists.proofs.ListLaws.{cond_yes, cond_no}
 use Rattle.lists.proofs.SortedLaws.{within_taken, within_left, map_insert, map_lookup}
 use Rattle.bincode.specs.Sizes.{Sizes}

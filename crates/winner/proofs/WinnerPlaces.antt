@@ -10,7 +10,7 @@ use lib.Dec.{ltb, eqb}
 use lib.ListN.{length, take, get_or, length-append}
 use lib.Seq.{append_snoc, take-append-add, get_or-append_seam}
 use borrow.Author.Tests.{ltb-true, ltb-false, lt-ltb, le-ltb, eqb-true, eqb-false}
-use Rattle.lists.specs.Lists.{found, nothing, map_found}
+use Rattle.lists.specs.Lists.{found, map_found}
 use Rattle.winner.specs.Winner.{support, winner_after, winner, place_after, winner_place}
 
 module _ {A : Type 0} (eq : A → A → Bool) (f : ℕ) (z : A) where

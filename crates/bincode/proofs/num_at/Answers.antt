@@ -1,8 +1,7 @@
 use Rattle.std.proofs.Common.{rules}
-use Prim.Native.Nat.{◌+◌, ◌-◌, ◌≤◌}
+use Prim.Native.Nat.{◌+◌, ◌-◌}
 use mathlib.Core.Path.{◌≡◌, ◌∙◌}
 use native.Mathlib.Omega.{arith}
-use lib.ListN.{take, drop}
 use Rattle.bincode.specs.Numbers.{le}
 use native.Mathlib.Nat.{add-zero, sub-zero, sub_self}
 use Rattle.bincode.proofs.NumberLaws.{num_step, part_below}

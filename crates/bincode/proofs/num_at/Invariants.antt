@@ -1,10 +1,7 @@
 use Prim.Native.Nat.{◌+◌, ◌-◌, ◌≤◌}
-use mathlib.Core.Path.{◌≡◌, ◌∙◌}
-use native.Mathlib.Omega.{arith}
+use mathlib.Core.Path.{◌≡◌}
 use lib.ListN.{take, drop}
 use Rattle.bincode.specs.Numbers.{le}
-use native.Mathlib.Nat.{add-zero, sub-zero, sub_self}
-use Rattle.bincode.proofs.NumberLaws.{num_step, part_below}
 use Rattle.bincode.proofs.num_at.Given as goal
 
 abbrev pub invariant-loop-k : goal.invariant-loop-k

@@ -1,9 +1,8 @@
 use Rattle.std.proofs.Common.{rules}
-use Prim.Native.Nat.{◌+◌, ◌-◌, ◌≤◌}
+use Prim.Native.Nat.{◌-◌}
 use mathlib.Core.Path.{◌≡◌, refl, sym, ◌∙◌}
 use native.Mathlib.Omega.{arith}
-use lib.ListN.{length, length-set}
-use lib.Seq.{sets}
+use lib.ListN.{length-set}
 use Rattle.bincode.specs.Numbers.{bytes_of}
 use native.Mathlib.Nat.{add-zero, sub-zero}
 use Rattle.bincode.proofs.NumberLaws.{put_step}

@@ -1,11 +1,8 @@
 use Prim.Native.Nat.{◌+◌, ◌-◌, ◌≤◌}
-use mathlib.Core.Path.{◌≡◌, refl, sym, ◌∙◌}
-use native.Mathlib.Omega.{arith}
-use lib.ListN.{length, length-set}
+use mathlib.Core.Path.{◌≡◌}
+use lib.ListN.{length}
 use lib.Seq.{sets}
 use Rattle.bincode.specs.Numbers.{bytes_of}
-use native.Mathlib.Nat.{add-zero, sub-zero}
-use Rattle.bincode.proofs.NumberLaws.{put_step}
 use Rattle.bincode.proofs.put.Given as goal
 
 abbrev pub invariant-loop-k : goal.invariant-loop-k

@@ -1,16 +1,13 @@
-use Prim.Native.Nat.{◌≤◌, ◌-◌}
-use mathlib.Core.Path.{◌≡◌, refl, ap, ◌∙◌}
-use mathlib.Core.Logic.{⊎_elim}
+use mathlib.Core.Path.{refl, ap, ◌∙◌}
 use native.Mathlib.Omega.{arith}
 use lib.ListN.{length, get_or}
-use Rattle.bincode.specs.Sizes.{base}
 use Rattle.pub_key_map.specs.PubKeyMap.{nodes_of}
 use Rattle.key_gen_state.specs.KeyGenState as running
 use Rattle.internal_contrib.specs.Index.{no_contrib}
 use Rattle.commit.specs.declared.Committed.{Committed}
 use Rattle.commit.specs.Votes as voting
 use Rattle.commit.specs.Batch.{Lists}
-use Rattle.commit.proofs.BatchLaws.{VotesTurn, MessagesTurn, votes_turned, messages_turned, votes_skipped, messages_skipped, votes_at, votes_done, messages_at, BatchLeft, batch_starts, batch_turn, batch_ends}
+use Rattle.commit.proofs.BatchLaws.{VotesTurn, MessagesTurn, votes_turned, messages_turned, votes_skipped, messages_skipped, votes_at, votes_done, messages_at, batch_starts, batch_turn, batch_ends}
 use Rattle.commit.proofs.commit_batch.Goals as goal
 use Rattle.commit.proofs.commit_batch.Goals.{else-e-gt0, else-e-gt0-2, then-e-gt0, then-e-gt0-2}
 

@@ -1,12 +1,10 @@
-use Prim.Native.Nat.{◌-◌, ◌≤◌}
 use mathlib.Core.Path.{◌≡◌, refl, sym, ap, ◌∙◌}
 use native.Mathlib.Omega.{arith}
 use mathlib.Core.List.{List}
-use lib.ListN.{length, length-map, length-set}
+use lib.ListN.{length, length-set}
 use Rattle.bincode.specs.Sizes.{base}
 use Rattle.key_gen.specs.declared.Proposal.{Proposal}
 use Rattle.key_gen.specs.declared.KeyGen.{KeyGen}
-use Rattle.decision.specs.Decision.{cleared_held}
 use Rattle.decision.proofs.ClearLaws.{clear_turn, clear_end}
 use Rattle.decision.proofs.clear.Goals as goal
 

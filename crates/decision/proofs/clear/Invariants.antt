@@ -1,13 +1,8 @@
 use Prim.Native.Nat.{◌-◌, ◌≤◌}
-use mathlib.Core.Path.{◌≡◌, refl, sym, ap, ◌∙◌}
-use native.Mathlib.Omega.{arith}
-use mathlib.Core.List.{List}
-use lib.ListN.{length, length-map, length-set}
+use mathlib.Core.Path.{◌≡◌}
+use lib.ListN.{length}
 use Rattle.bincode.specs.Sizes.{base}
-use Rattle.key_gen.specs.declared.Proposal.{Proposal}
-use Rattle.key_gen.specs.declared.KeyGen.{KeyGen}
 use Rattle.decision.specs.Decision.{cleared_held}
-use Rattle.decision.proofs.ClearLaws.{clear_turn, clear_end}
 use Rattle.decision.proofs.clear.Given as goal
 
 abbrev pub invariant-loop-i : goal.invariant-loop-i

@@ -1,7 +1,7 @@
 use mathlib.Core.Path.{◌≡◌, sym, ap, ◌∙◌}
 use Prim.Native.Nat.{◌<◌}
 use native.Mathlib.Omega.{arith}
-use lib.ListN.{length, length-map}
+use lib.ListN.{length}
 use Rattle.lists.specs.Lists.{found, map_found}
 use Rattle.bincode.specs.Sizes.{base}
 use Rattle.votes.specs.Votes.{SignedVoteOf, signed_of, no_signed}

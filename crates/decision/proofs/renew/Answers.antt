@@ -1,5 +1,5 @@
 use mathlib.Core.Path.{◌≡◌}
-use lib.ListN.{length, length-map}
+use lib.ListN.{length}
 use Rattle.bincode.specs.Sizes.{base}
 use Rattle.decision.proofs.ClearLaws.{clear_held}
 use Rattle.decision.proofs.renew.Goals as goal

@@ -1,10 +1,10 @@
-use Prim.Native.Nat.{◌≤◌, ◌-◌, zero-le}
+use Prim.Native.Nat.{zero-le}
 use mathlib.Core.Path.{◌≡◌, ◌∙◌}
-use lib.ListN.{length, replicate, length-replicate, length-set}
+use lib.ListN.{replicate, length-replicate, length-set}
 use Rattle.bincode.specs.Sizes.{base}
 use Rattle.host.specs.Records.{no_record}
 use native.Mathlib.Omega.{arith}
-use Rattle.host.proofs.PairLaws.{PairedTo, paired_start, paired_turn}
+use Rattle.host.proofs.PairLaws.{paired_start, paired_turn}
 use Rattle.host.proofs.paired.Goals as goal
 
 pub loop-i-init : goal.loop-i-init

@@ -1,10 +1,8 @@
-use Prim.Native.Nat.{◌≤◌, ◌-◌, zero-le}
-use mathlib.Core.Path.{◌≡◌, ◌∙◌}
-use lib.ListN.{length, replicate, length-replicate, length-set}
+use Prim.Native.Nat.{◌≤◌, ◌-◌}
+use mathlib.Core.Path.{◌≡◌}
+use lib.ListN.{length}
 use Rattle.bincode.specs.Sizes.{base}
-use Rattle.host.specs.Records.{no_record}
-use native.Mathlib.Omega.{arith}
-use Rattle.host.proofs.PairLaws.{PairedTo, paired_start, paired_turn}
+use Rattle.host.proofs.PairLaws.{PairedTo}
 use Rattle.host.proofs.paired.Given as goal
 
 abbrev pub invariant-loop-i : goal.invariant-loop-i

@@ -1,8 +1,7 @@
-use Rattle.std.proofs.Common.{◌≡◌, ◌<◌, length, get_or, set, arith, rules}
-use mathlib.Core.Path.{ap, sym, ◌∙◌}
-use Rattle.host.specs.declared.FaultRecord.{FaultRecord}
-use Rattle.host.specs.Records.{records_in, no_record}
-use Rattle.host.proofs.RecordLaws.{filled_to, filled_start, filled_turn, filled_all}
+use Rattle.std.proofs.Common.{set, arith, rules}
+use mathlib.Core.Path.{◌∙◌}
+use Rattle.host.specs.Records.{no_record}
+use Rattle.host.proofs.RecordLaws.{filled_start, filled_turn, filled_all}
 use Rattle.host.proofs.write_faults.Goals as goal
 
 pub loop-i-init : goal.loop-i-init

@@ -1,10 +1,9 @@
-use Prim.Native.Nat.{◌-◌}
 use mathlib.Core.Path.{ap}
 use native.Mathlib.Omega.{arith}
 use Rattle.bincode.specs.Sizes.{base}
 use Rattle.key_gen_message.specs.KeyGenMessage.{read_signed_key_gen_msg}
 use Rattle.key_gen_message.specs.declared.ReadHead.{ReadHead}
-use Rattle.internal_contrib.proofs.CountLaws.{Passing, pass_start, pass_more, pass_refused, pass_done}
+use Rattle.internal_contrib.proofs.CountLaws.{pass_start, pass_more, pass_refused, pass_done}
 use Rattle.internal_contrib.proofs.check_messages.Goals as goal
 
 pub loop-i-init : goal.loop-i-init

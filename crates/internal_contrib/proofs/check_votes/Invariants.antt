@@ -1,10 +1,7 @@
 use Prim.Native.Nat.{◌-◌}
-use mathlib.Core.Path.{ap}
-use native.Mathlib.Omega.{arith}
 use Rattle.bincode.specs.Sizes.{base}
 use Rattle.votes.specs.Votes.{read_signed_vote}
-use Rattle.votes.specs.declared.ReadVoteHead.{ReadVoteHead}
-use Rattle.internal_contrib.proofs.CountLaws.{Passing, pass_start, pass_more, pass_refused, pass_done}
+use Rattle.internal_contrib.proofs.CountLaws.{Passing}
 use Rattle.internal_contrib.proofs.check_votes.Given as goal
 
 abbrev pub invariant-loop-i : goal.invariant-loop-i

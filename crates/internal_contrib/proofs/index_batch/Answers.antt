@@ -1,4 +1,3 @@
-use Prim.Native.Nat.{◌-◌}
 use mathlib.Core.Path.{◌≡◌, sym, ap, ◌∙◌, subst}
 use native.Mathlib.Omega.{arith}
 use lib.Dec.{lit<}
@@ -15,7 +14,7 @@ use Rattle.internal_contrib.specs.InternalContrib.{read_contrib}
 use Rattle.internal_contrib.specs.Places.{placed, said_contrib}
 use Rattle.internal_contrib.specs.Index.{Indexed}
 use Rattle.internal_contrib.proofs.BatchLaws.{batch_long}
-use Rattle.internal_contrib.proofs.IndexLaws.{Indexing, index_cut, index_over, index_start, index_left, index_done, index_count, index_refused, index_fits, index_more}
+use Rattle.internal_contrib.proofs.IndexLaws.{index_cut, index_over, index_start, index_left, index_done, index_count, index_refused, index_fits, index_more}
 use Rattle.internal_contrib.proofs.index_batch.Goals as goal
 
 pub returns-then-s-gt-BYTES : goal.returns-then-s-gt-BYTES

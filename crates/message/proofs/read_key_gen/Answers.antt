@@ -9,7 +9,6 @@ use Rattle.bincode.proofs.ReadLaws.{held_next, number_refused}
 use Rattle.key_gen_message.specs.declared.ReadMessage as key_gen
 use Rattle.key_gen_message.specs.KeyGenMessage.{KeyGenMessageOf, no_message, message_held, read_key_gen_message}
 use Rattle.message.specs.declared.MessageKind.TheVariants.{KeyGen}
-use Rattle.message.specs.declared.ReadMessage.{ReadMessage}
 use Rattle.message.specs.Message.{read_key_gen}
 use Rattle.message.proofs.read_key_gen.Goals as goal
 

@@ -1,13 +1,11 @@
 use Rattle.std.proofs.Common.{rules}
 use mathlib.Core.Path.{◌≡◌, refl, sym, ◌∙◌}
 use mathlib.Core.List.{◌∷◌}
-use Prim.Native.Nat.{◌≤◌, ◌-◌, ◌+◌}
+use Prim.Native.Nat.{◌+◌}
 use native.Mathlib.Omega.{arith}
-use lib.ListN.{length, drop, get_or}
+use lib.ListN.{drop, get_or}
 use Rattle.lists.proofs.ListLaws.{rest_more}
-use Rattle.bincode.specs.Sizes.{base}
 use Rattle.pub_key_map.specs.PubKeyMap.{nodes_of, no_node}
-use Rattle.network_info.specs.NetworkInfo.{node_index, index_from}
 use Rattle.network_info.proofs.IndexLaws.{index_hit, index_miss, index_end}
 use Rattle.network_info.proofs.node_index.Goals as goal
 

@@ -1,13 +1,9 @@
-use mathlib.Core.Path.{◌≡◌, refl, sym, ◌∙◌}
-use mathlib.Core.List.{◌∷◌}
-use Prim.Native.Nat.{◌≤◌, ◌-◌, ◌+◌}
-use native.Mathlib.Omega.{arith}
-use lib.ListN.{length, drop, get_or}
-use Rattle.lists.proofs.ListLaws.{rest_more}
+use mathlib.Core.Path.{◌≡◌}
+use Prim.Native.Nat.{◌≤◌, ◌-◌}
+use lib.ListN.{length, drop}
 use Rattle.bincode.specs.Sizes.{base}
-use Rattle.pub_key_map.specs.PubKeyMap.{nodes_of, no_node}
+use Rattle.pub_key_map.specs.PubKeyMap.{nodes_of}
 use Rattle.network_info.specs.NetworkInfo.{node_index, index_from}
-use Rattle.network_info.proofs.IndexLaws.{index_hit, index_miss, index_end}
 use Rattle.network_info.proofs.node_index.Given as goal
 
 abbrev pub invariant-loop-i : goal.invariant-loop-i

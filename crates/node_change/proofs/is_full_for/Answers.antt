@@ -1,4 +1,3 @@
-use mathlib.Core.Logic.{⊎_elim}
 use Prim.Native.Nat.{ℕ}
 use native.Mathlib.Omega.{arith}
 use Rattle.lists.proofs.SortedLaws.{NewAt, new_last, new_between, key_stands}

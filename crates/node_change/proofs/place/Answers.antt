@@ -1,12 +1,8 @@
 use Rattle.std.proofs.Common.{rules}
-use mathlib.Core.Path.{◌≡◌, sym, ◌∙◌}
-use Prim.Native.Nat.{◌≤◌, ◌-◌, ◌+◌}
+use mathlib.Core.Path.{sym, ◌∙◌}
 use native.Mathlib.Omega.{arith}
-use lib.ListN.{length, drop}
-use Rattle.lists.specs.Lists.{below}
 use Rattle.lists.proofs.ListLaws.{rest_more}
 use Rattle.lists.proofs.SortedLaws.{below_more, below_stop, below_end}
-use Rattle.bincode.specs.Sizes.{base}
 use Rattle.pub_key_map.specs.PubKeyMap.{nodes_of}
 use Rattle.node_change.specs.NodeChange.{id_of}
 use Rattle.node_change.proofs.place.Goals as goal

@@ -1,9 +1,9 @@
 use Rattle.std.proofs.Common.{rules}
 use mathlib.Core.Path.{◌≡◌}
-use Prim.Native.Nat.{◌≤◌, ◌<◌}
+use Prim.Native.Nat.{◌<◌}
 use native.Mathlib.Omega.{arith}
-use lib.ListN.{length, length-map, length-set}
-use Rattle.lists.proofs.SortedLaws.{Shifted, shift_start, shift_down, shift_done}
+use lib.ListN.{length, length-set}
+use Rattle.lists.proofs.SortedLaws.{shift_start, shift_down, shift_done}
 use Rattle.bincode.specs.Sizes.{base}
 use Rattle.node_change.proofs.shift.Goals as goal
 

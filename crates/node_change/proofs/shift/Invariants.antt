@@ -1,8 +1,7 @@
 use mathlib.Core.Path.{◌≡◌}
 use Prim.Native.Nat.{◌≤◌, ◌<◌}
-use native.Mathlib.Omega.{arith}
-use lib.ListN.{length, length-map, length-set}
-use Rattle.lists.proofs.SortedLaws.{Shifted, shift_start, shift_down, shift_done}
+use lib.ListN.{length}
+use Rattle.lists.proofs.SortedLaws.{Shifted}
 use Rattle.bincode.specs.Sizes.{base}
 use Rattle.node_change.proofs.shift.Given as goal
 

@@ -1,14 +1,8 @@
-use borrow.Author.Tests.{eq-eqb, ne_eqb}
-use mathlib.Core.Bool.{not}
-use mathlib.Core.Logic.{⊎_elim}
-use mathlib.Core.Path.{◌≡◌, sym, ap, ◌∙◌}
 use Prim.Native.Nat.{◌-◌}
-use lib.ListN.{length, length-map}
-use Rattle.lists.proofs.KeptLaws.{Keeping, keep_start, keep_yes, keep_no, keep_held}
+use Rattle.lists.proofs.KeptLaws.{Keeping}
 use Rattle.bincode.specs.Sizes.{base}
 use Rattle.pub_key_map.specs.declared.Node.{Node}
-use Rattle.pub_key_map.specs.PubKeyMap.{nodes_of}
-use Rattle.node_change.specs.NodeChange.{is_not, without_node}
+use Rattle.node_change.specs.NodeChange.{is_not}
 use Rattle.node_change.proofs.without_node.Given as goal
 
 -- a node stands for itself

@@ -1,6 +1,5 @@
 use Prim.Native.Nat.{ℕ, ◌+◌, ◌^◌, ◌<◌}
 use mathlib.Core.Path.{◌≡◌, refl, sym, ap, ◌∙◌, subst}
-use mathlib.Core.Logic.{⊎_elim}
 use lib.ListN.{length, replicate, length-replicate}
 use Rattle.bincode.specs.Sizes.{base}
 use Rattle.bincode.specs.Stands.{Bytes}

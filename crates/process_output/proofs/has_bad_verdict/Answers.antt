@@ -1,9 +1,8 @@
 use native.Mathlib.Omega.{arith}
 use borrow.Author.Tests.{lt-ltb, le-ltb}
-use Prim.Native.Nat.{◌-◌}
-use mathlib.Core.Path.{◌≡◌, refl, sym, ◌∙◌}
-use lib.ListN.{length, drop, get_or}
-use Rattle.process_output.specs.Refusals.{some, no_verdict}
+use mathlib.Core.Path.{refl, sym, ◌∙◌}
+use lib.ListN.{get_or}
+use Rattle.process_output.specs.Refusals.{no_verdict}
 use Rattle.process_output.proofs.SomeLaws.{some_here, some_later, some_past}
 use Rattle.process_output.proofs.has_bad_verdict.Goals as goal
 

@@ -1,15 +1,11 @@
 use lib.Seq.{sets}
-use Rattle.lists.proofs.ListLaws.{rest_more, take_live}
 use Rattle.bincode.specs.Sizes.{base}
 use Rattle.bincode.specs.Numbers.{fixed}
 use Rattle.bincode.specs.Stands.{concat_map}
-use Rattle.bincode.specs.Writing.{written, written_to}
-use borrow.Author.Tests.{leb-true, leb-false}
-use Rattle.bincode.proofs.WriteLaws.{Putting, put_start, put_counted, put_more, put_done, no_room}
-use Rattle.pub_key_map.specs.PubKeyMap.{nodes_of, no_node, node_bytes, map_bytes}
-use mathlib.Core.Path.{◌≡◌, refl, sym, ◌∙◌}
+use Rattle.bincode.proofs.WriteLaws.{Putting}
+use Rattle.pub_key_map.specs.PubKeyMap.{node_bytes}
+use mathlib.Core.Path.{◌≡◌}
 use Prim.Native.Nat.{◌≤◌, ◌-◌, ◌+◌}
-use native.Mathlib.Omega.{arith}
 use lib.ListN.{length, take}
 use Rattle.pub_key_map.proofs.write_map.Given as goal
 

@@ -1,13 +1,9 @@
 use Rattle.std.proofs.Common.{rules}
 use mathlib.Core.Path.{◌≡◌, refl}
-use mathlib.Core.Logic.{⊎_elim}
 use mathlib.Core.Bool.{false}
-use Prim.Native.Nat.{◌≤◌, ◌-◌, ◌+◌}
 use native.Mathlib.Omega.{arith}
-use lib.ListN.{length, drop}
-use Rattle.lists.specs.Lists.{marked}
+use lib.ListN.{length}
 use Rattle.bincode.specs.Sizes.{base}
-use Rattle.key_gen.specs.KeyGen.{indices}
 use Rattle.key_gen.proofs.KeyGenLaws.{count_more, count_none, count_end}
 use Rattle.recipe.proofs.count.Goals as goal
 use Rattle.recipe.proofs.count.Goals.{else-flags-i, then-flags-i}

@@ -1,13 +1,9 @@
-use mathlib.Core.Path.{◌≡◌, refl}
-use mathlib.Core.Logic.{⊎_elim}
-use mathlib.Core.Bool.{false}
+use mathlib.Core.Path.{◌≡◌}
 use Prim.Native.Nat.{◌≤◌, ◌-◌, ◌+◌}
-use native.Mathlib.Omega.{arith}
 use lib.ListN.{length, drop}
 use Rattle.lists.specs.Lists.{marked}
 use Rattle.bincode.specs.Sizes.{base}
 use Rattle.key_gen.specs.KeyGen.{indices}
-use Rattle.key_gen.proofs.KeyGenLaws.{count_more, count_none, count_end}
 use Rattle.recipe.proofs.count.Given as goal
 
 abbrev pub invariant-loop-i : goal.invariant-loop-i

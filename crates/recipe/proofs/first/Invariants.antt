@@ -1,13 +1,9 @@
-use mathlib.Core.Path.{◌≡◌, refl}
-use mathlib.Core.Logic.{⊎_elim}
 use mathlib.Core.Bool.{false}
 use Prim.Native.Nat.{◌≤◌, ◌-◌}
-use native.Mathlib.Omega.{arith}
-use lib.ListN.{length, drop}
+use lib.ListN.{drop}
 use Rattle.bincode.specs.Sizes.{base}
 use Rattle.recipe.specs.Places.{first_marks}
-use Rattle.recipe.proofs.FillLaws.{Filled, fill_start, fill_more, fill_same, fill_end}
-use Rattle.recipe.proofs.RecipeLaws.{marks_more, marks_full, marks_none, marks_end}
+use Rattle.recipe.proofs.FillLaws.{Filled}
 use Rattle.recipe.proofs.first.Given as goal
 
 abbrev pub invariant-loop-i : goal.invariant-loop-i

@@ -1,4 +1,4 @@
-use mathlib.Core.Path.{◌≡◌, sym, ap, ◌∙◌}
+use mathlib.Core.Path.{sym, ap, ◌∙◌}
 use Rattle.bincode.specs.Sizes.{base}
 use Rattle.key_gen_message.specs.declared.ReadSigned.{ReadSigned}
 use Rattle.key_gen_message.specs.KeyGenMessage.{SignedKeyGenMsgOf, read_signed_key_gen_msg, same_signed, signed_of, signed_answer}

@@ -1,12 +1,8 @@
 use Rattle.std.proofs.Common.{rules}
-use Prim.Native.Nat.{ℕ, ◌+◌, ◌≤◌, ◌-◌}
-use mathlib.Core.Path.{◌≡◌, refl, sym, ◌∙◌}
-use mathlib.Core.List.{List, map}
+use mathlib.Core.Path.{refl, sym, ◌∙◌}
 use native.Mathlib.Omega.{arith}
-use lib.ListN.{drop, get_or}
+use lib.ListN.{get_or}
 use Rattle.key_gen_message.specs.KeyGenMessage.{signed_of}
-use Rattle.steps.specs.Kept.{is_none}
-use Rattle.store_filter.specs.Filter.{Entry, message_in, Listed}
 use Rattle.store_filter.proofs.FilterLaws.{no_entry, id_at, first_at, place_at, read_at, search_hit, search_miss, search_end}
 use Rattle.store_filter.proofs.is_committed.Goals as goal
 

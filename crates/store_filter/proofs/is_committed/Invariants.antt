@@ -1,12 +1,10 @@
-use Prim.Native.Nat.{ℕ, ◌+◌, ◌≤◌, ◌-◌}
-use mathlib.Core.Path.{◌≡◌, refl, sym, ◌∙◌}
+use Prim.Native.Nat.{◌≤◌, ◌-◌}
+use mathlib.Core.Path.{◌≡◌}
 use mathlib.Core.List.{List, map}
-use native.Mathlib.Omega.{arith}
-use lib.ListN.{drop, get_or}
+use lib.ListN.{drop}
 use Rattle.key_gen_message.specs.KeyGenMessage.{signed_of}
 use Rattle.steps.specs.Kept.{is_none}
 use Rattle.store_filter.specs.Filter.{Entry, message_in, Listed}
-use Rattle.store_filter.proofs.FilterLaws.{no_entry, id_at, first_at, place_at, read_at, search_hit, search_miss, search_end}
 use Rattle.store_filter.proofs.is_committed.Given as goal
 
 abbrev pub invariant-loop-i : goal.invariant-loop-i

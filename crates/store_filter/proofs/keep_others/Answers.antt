@@ -1,15 +1,13 @@
-use Prim.Native.Nat.{ℕ, ◌+◌, ◌≤◌, ◌-◌}
 use mathlib.Core.Path.{◌≡◌, sym, ap, ◌∙◌}
 use mathlib.Core.Bool.{not}
-use mathlib.Core.Logic.{⊎_elim}
-use mathlib.Core.List.{List, map}
+use mathlib.Core.List.{map}
 use native.Mathlib.Omega.{arith}
-use lib.ListN.{length, length-set, length-map}
-use Rattle.lists.proofs.KeptLaws.{Keeping, keep_start, keep_yes, keep_no, keep_end}
+use lib.ListN.{length, length-set}
+use Rattle.lists.proofs.KeptLaws.{keep_start, keep_yes, keep_no, keep_end}
 use Rattle.bincode.specs.Sizes.{base}
 use Rattle.key_gen_message.specs.KeyGenMessage.{signed_of}
 use Rattle.steps.specs.Kept.{is_none}
-use Rattle.store_filter.specs.Filter.{Entry, message_in, without_entries, Listed}
+use Rattle.store_filter.specs.Filter.{message_in, without_entries}
 use Rattle.store_filter.proofs.keep_others.Goals as goal
 use Rattle.store_filter.proofs.keep_others.Goals.{else-not-is_committed, then-not-is_committed}
 

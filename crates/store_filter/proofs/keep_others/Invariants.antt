@@ -1,14 +1,12 @@
-use Prim.Native.Nat.{ℕ, ◌+◌, ◌≤◌, ◌-◌}
-use mathlib.Core.Path.{◌≡◌, sym, ◌∙◌}
-use mathlib.Core.Logic.{⊎_elim}
+use Prim.Native.Nat.{◌≤◌, ◌-◌}
+use mathlib.Core.Path.{◌≡◌}
 use mathlib.Core.List.{List, map}
-use native.Mathlib.Omega.{arith}
-use lib.ListN.{length, length-set, length-map}
-use Rattle.lists.proofs.KeptLaws.{Keeping, keep_start, keep_yes, keep_no, keep_end}
+use lib.ListN.{length}
+use Rattle.lists.proofs.KeptLaws.{Keeping}
 use Rattle.bincode.specs.Sizes.{base}
 use Rattle.key_gen_message.specs.KeyGenMessage.{signed_of}
 use Rattle.steps.specs.Kept.{is_none}
-use Rattle.store_filter.specs.Filter.{Entry, message_in, without_entries, Listed}
+use Rattle.store_filter.specs.Filter.{Entry, message_in, Listed}
 use Rattle.store_filter.proofs.keep_others.Given as goal
 
 abbrev pub invariant-loop-i : goal.invariant-loop-i

@@ -1,13 +1,11 @@
-use Prim.Native.Nat.{◌+◌, ◌≤◌, ◌-◌}
-use mathlib.Core.Path.{◌≡◌, sym}
+use Prim.Native.Nat.{◌≤◌, ◌-◌}
+use mathlib.Core.Path.{◌≡◌}
 use mathlib.Core.List.{[]}
-use native.Mathlib.Omega.{arith}
 use lib.ListN.{length, take}
 use Rattle.bincode.specs.Sizes.{base}
 use Rattle.bincode.specs.Items.{foldl}
 use Rattle.internal_contrib.specs.Index.{contribs_in}
 use Rattle.store_filter.specs.Filter.{contrib_listed, Listed, Room}
-use Rattle.store_filter.proofs.FilterLaws.{contribs_more, contribs_end, list_start}
 use Rattle.store_filter.proofs.list_batch.Given as goal
 
 abbrev pub invariant-loop-i : goal.invariant-loop-i

@@ -1,17 +1,9 @@
-use Prim.Native.Nat.{ℕ, ◌+◌, ◌≤◌, ◌-◌}
-use mathlib.Core.Path.{◌≡◌, refl, sym, ap, ◌∙◌}
+use Prim.Native.Nat.{◌≤◌, ◌-◌}
+use mathlib.Core.Path.{◌≡◌}
 use mathlib.Core.List.{List}
-use native.Mathlib.Omega.{arith}
-use native.Mathlib.Nat.{sub-zero}
 use Rattle.bincode.specs.Sizes.{base}
 use Rattle.bincode.specs.Items.{foldl}
-use Rattle.bincode.proofs.ReadLaws.{held_next, step_refused}
-use Rattle.key_gen_message.specs.declared.MessageHead.{MessageHead}
-use Rattle.key_gen_message.specs.declared.ReadHead.{ReadHead}
-use Rattle.key_gen_message.specs.KeyGenMessage.{read_signed_key_gen_msg, no_signed}
-use Rattle.key_gen_message.specs.Head.{head_of}
 use Rattle.store_filter.specs.Filter.{Entry, entries_from, listed, Listed, Room}
-use Rattle.store_filter.proofs.FilterLaws.{entries_more, entries_refused, entries_end}
 use Rattle.store_filter.proofs.list_messages.Given as goal
 
 abbrev pub invariant-loop-i : goal.invariant-loop-i

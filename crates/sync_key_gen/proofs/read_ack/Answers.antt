@@ -1,16 +1,15 @@
 use Prim.Native.Nat.{ℕ}
 use mathlib.Core.Path.{◌≡◌, sym, ap, ◌∙◌}
 use mathlib.Core.List.{List}
-use Rattle.bincode.specs.Read.{value, refuse, number_of}
+use Rattle.bincode.specs.Read.{value}
 use Rattle.bincode.specs.Numbers.{read_num}
 use Rattle.bincode.specs.Sizes.{base}
-use Rattle.bincode.specs.Answer.{said64, said_step}
-use Rattle.bincode.specs.declared.Step.{Step}
+use Rattle.bincode.specs.Answer.{said64}
 use Rattle.bincode.specs.declared.Step.TheVariants.{Next}
 use Rattle.bincode.proofs.NumberLaws.{read_refused}
 use Rattle.sync_key_gen.specs.declared.Handles.{Handles}
 use Rattle.sync_key_gen.specs.declared.ReadAck.{ReadAck}
-use Rattle.sync_key_gen.specs.SyncKeyGen.{handles_held, read_handles, read_ack, ack_answer}
+use Rattle.sync_key_gen.specs.SyncKeyGen.{handles_held, read_handles, read_ack}
 use Rattle.bincode.proofs.ReadLaws.{held_next, number_refused}
 use mathlib.Core.List.{[]}
 use Rattle.sync_key_gen.specs.declared.ReadHandles.{ReadHandles}

@@ -1,6 +1,5 @@
-use Prim.Native.Nat.{ℕ, ◌-◌, ◌≤◌}
 use mathlib.Core.Path.{◌≡◌, refl, sym, ap, ◌∙◌}
-use mathlib.Core.List.{List, [], ◌∷◌, ◌++◌}
+use mathlib.Core.List.{[], ◌∷◌, ◌++◌}
 use native.Mathlib.Omega.{arith}
 use lib.ListN.{length, length-append}
 use Rattle.lists.specs.Lists.{padded}
@@ -8,7 +7,7 @@ use Rattle.lists.proofs.ListLaws.{padded_set}
 use Rattle.bincode.specs.Read.{value}
 use Rattle.bincode.specs.Numbers.{read_num}
 use Rattle.bincode.specs.Sizes.{base}
-use Rattle.bincode.specs.Items.{after, plain, stay, many}
+use Rattle.bincode.specs.Items.{plain, stay}
 use Rattle.bincode.specs.Answer.{said64}
 use Rattle.bincode.proofs.NumberLaws.{read_refused}
 use Rattle.bincode.proofs.ItemLaws.{counted_cut, counted_over, counted_start, many_turn, many_refused, many_end}

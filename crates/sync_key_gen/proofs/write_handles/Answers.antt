@@ -1,15 +1,14 @@
 use Rattle.std.proofs.Common.{rules}
 use lib.Seq.{sets}
 use Rattle.lists.proofs.ListLaws.{rest_more, take_live}
-use Rattle.bincode.specs.Sizes.{base}
 use Rattle.bincode.specs.Numbers.{bytes_of}
 use Rattle.bincode.specs.Stands.{concat_map}
 use Rattle.bincode.specs.Writing.{written, written_to}
 use borrow.Author.Tests.{leb-true, leb-false}
-use Rattle.bincode.proofs.WriteLaws.{Putting, put_start, put_counted, put_more, put_done, no_room}
+use Rattle.bincode.proofs.WriteLaws.{put_start, put_counted, put_more, put_done, no_room}
 use Rattle.sync_key_gen.specs.SyncKeyGen.{handles_of, handles_bytes}
 use mathlib.Core.Path.{◌≡◌, refl, sym, ◌∙◌}
-use Prim.Native.Nat.{◌≤◌, ◌-◌, ◌+◌}
+use Prim.Native.Nat.{◌≤◌, ◌+◌}
 use native.Mathlib.Omega.{arith}
 use lib.ListN.{length, take}
 use Rattle.sync_key_gen.proofs.write_handles.Goals as goal

@@ -1,24 +1,12 @@
-use mathlib.Core.Path.{◌≡◌, refl, sym, ap, ◌∙◌, subst}
-use mathlib.Core.Bool.{Bool, true, false, not}
-use mathlib.Core.List.{List}
-use mathlib.Core.Logic.{⊎_elim}
-use Prim.Native.Nat.{ℕ, ◌≤◌, ◌<◌, ◌+◌, ◌-◌, min}
-use native.Mathlib.Omega.{arith}
-use lib.ListN.{length, get_or, length-set}
-use Rattle.lists.proofs.ListLaws.{false_true}
-use Rattle.lists.proofs.ViewLaws.{view_at}
+use mathlib.Core.Path.{◌≡◌}
+use Prim.Native.Nat.{◌≤◌, ◌<◌, ◌-◌}
+use lib.ListN.{length}
 use Rattle.bincode.specs.Sizes.{base}
-use Rattle.change.specs.Change.{change_of, same_change}
-use Rattle.votes.specs.declared.SignedVote.{SignedVote}
-use Rattle.votes.specs.Votes.{SignedVoteOf, signed_of, no_signed}
-use Rattle.signed_votes.specs.declared.SignedVotes.{SignedVotes}
-use Rattle.signed_votes.specs.SignedVotes.{votes_of, voter_of}
+use Rattle.signed_votes.specs.SignedVotes.{votes_of}
 use Rattle.winner.specs.Board.{in_order}
-use Rattle.winner.proofs.BoardOrder.{length_placed}
-use Rattle.board.specs.declared.BoardRow.{BoardRow}
 use Rattle.board.specs.Board.{rows_of, count_in, voter_in, worked_out}
-use Rattle.board.proofs.BoardTurns.{Marked, marked_start, marked_again, Marking, marking_start, marking_yes, marking_no, marking_end, begun_before, first_here}
-use Rattle.board.proofs.BoardTurns.{choice_at, Counted, counted_start, counted_yes, counted_no, begins, to_come, none_in, row_in, row_there, all_in}
+use Rattle.board.proofs.BoardTurns.{Marked, Marking}
+use Rattle.board.proofs.BoardTurns.{Counted, to_come}
 use Rattle.board.proofs.Board.of.Given as goal
 
 abbrev pub invariant-loop-j : goal.invariant-loop-j

@@ -1,12 +1,8 @@
 use Rattle.std.proofs.Common.{rules}
-use mathlib.Core.Path.{◌≡◌, sym, ◌∙◌}
-use Prim.Native.Nat.{◌≤◌, ◌-◌, ◌+◌}
+use mathlib.Core.Path.{sym, ◌∙◌}
 use native.Mathlib.Omega.{arith}
-use lib.ListN.{length, drop}
 use Rattle.lists.proofs.ListLaws.{rest_more}
-use Rattle.bincode.specs.Sizes.{base}
 use Rattle.board.specs.Board.{rows_of}
-use Rattle.board.specs.Turns.{rank}
 use Rattle.board.proofs.BoardTurns.{rank_more, rank_stop, rank_end}
 use Rattle.board.proofs.Board.place_of.Goals as goal
 

@@ -1,12 +1,9 @@
-use mathlib.Core.Path.{◌≡◌, sym, ◌∙◌}
+use mathlib.Core.Path.{◌≡◌}
 use Prim.Native.Nat.{◌≤◌, ◌-◌, ◌+◌}
-use native.Mathlib.Omega.{arith}
 use lib.ListN.{length, drop}
-use Rattle.lists.proofs.ListLaws.{rest_more}
 use Rattle.bincode.specs.Sizes.{base}
 use Rattle.board.specs.Board.{rows_of}
 use Rattle.board.specs.Turns.{rank}
-use Rattle.board.proofs.BoardTurns.{rank_more, rank_stop, rank_end}
 use Rattle.board.proofs.Board.place_of.Given as goal
 
 abbrev pub invariant-loop-i : goal.invariant-loop-i

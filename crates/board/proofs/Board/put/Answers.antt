@@ -1,11 +1,11 @@
 use Rattle.std.proofs.Common.{rules}
 use mathlib.Core.Path.{◌≡◌, sym, ap, ◌∙◌}
-use Prim.Native.Nat.{ℕ, ◌≤◌, ◌<◌}
+use Prim.Native.Nat.{ℕ, ◌<◌}
 use native.Mathlib.Omega.{arith}
 use mathlib.Core.List.{◌∷◌, ◌++◌}
-use lib.ListN.{length, take, drop, length-map, length-set}
+use lib.ListN.{length, take, drop, length-set}
 use Rattle.lists.proofs.ListLaws.{take_live}
-use Rattle.lists.proofs.SortedLaws.{Shifted, shift_start, shift_down, shift_done}
+use Rattle.lists.proofs.SortedLaws.{shift_start, shift_down, shift_done}
 use Rattle.bincode.specs.Sizes.{base}
 use Rattle.board.specs.Board.{rows_of}
 use Rattle.board.proofs.BoardTurns.{placed_at}

@@ -1,13 +1,8 @@
-use mathlib.Core.Path.{◌≡◌, sym, ap, ◌∙◌}
-use Prim.Native.Nat.{ℕ, ◌≤◌, ◌<◌}
-use native.Mathlib.Omega.{arith}
-use mathlib.Core.List.{◌∷◌, ◌++◌}
-use lib.ListN.{length, take, drop, length-map, length-set}
-use Rattle.lists.proofs.ListLaws.{take_live}
-use Rattle.lists.proofs.SortedLaws.{Shifted, shift_start, shift_down, shift_done}
+use mathlib.Core.Path.{◌≡◌}
+use Prim.Native.Nat.{◌≤◌, ◌<◌}
+use lib.ListN.{length}
+use Rattle.lists.proofs.SortedLaws.{Shifted}
 use Rattle.bincode.specs.Sizes.{base}
-use Rattle.board.specs.Board.{rows_of}
-use Rattle.board.proofs.BoardTurns.{placed_at}
 use Rattle.board.proofs.Board.put.Given as goal
 
 abbrev pub invariant-loop-j : goal.invariant-loop-j

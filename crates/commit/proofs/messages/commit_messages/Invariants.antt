@@ -1,28 +1,16 @@
 use Prim.Native.Nat.{ℕ, ◌≤◌, ◌-◌}
-use mathlib.Core.Path.{◌≡◌, refl, sym, ap, ◌∙◌}
+use mathlib.Core.Path.{◌≡◌}
 use mathlib.Core.List.{List}
-use mathlib.Core.Bool.{not, cond}
-use native.Mathlib.Omega.{arith}
-use lib.ListN.{length, length-set, length-map}
-use Rattle.lists.specs.Lists.{found, nothing}
-use Rattle.bincode.specs.Items.{plain, stay}
+use lib.ListN.{length}
 use Rattle.bincode.specs.Sizes.{base}
-use Rattle.bincode.proofs.RereadLaws.{Handling, handle_refused, reread_more, reread_start, reread_end}
-use Rattle.bincode.proofs.ReadLaws.{held_next}
+use Rattle.bincode.proofs.RereadLaws.{Handling}
 use Rattle.pub_key_map.specs.PubKeyMap.{nodes_of}
-use Rattle.network_info.specs.NetworkInfo.{is_member}
 use Rattle.key_gen.specs.declared.KeyGen.{KeyGen}
-use Rattle.key_gen.specs.KeyGen as gen
 use Rattle.key_gen_state.specs.declared.KeyGenState.{KeyGenState}
-use Rattle.key_gen_message.specs.KeyGenMessage.{read_signed_key_gen_msg, no_signed}
-use Rattle.key_gen_message.specs.declared.MessageHead.{MessageHead}
-use Rattle.key_gen_message.specs.declared.ReadHead.{ReadHead}
-use Rattle.key_gen_message.specs.Head.{head_of}
-use Rattle.steps.specs.Steps.{WorkOf, committed_message, message_done}
-use Rattle.commit.specs.Asks.{key_gen_in, asked, said_told}
+use Rattle.key_gen_message.specs.KeyGenMessage.{read_signed_key_gen_msg}
+use Rattle.steps.specs.Steps.{WorkOf, committed_message}
+use Rattle.commit.specs.Asks.{key_gen_in}
 use Rattle.commit.specs.Handled.{Point, HeldAt}
-use Rattle.commit.proofs.AskLaws.{turned, with_proposal}
-use Rattle.commit.proofs.HandledLaws.{holds_by, faults_of, due_of}
 use Rattle.commit.proofs.messages.commit_messages.Given as goal
 
 -- what the loop holds, by its variables

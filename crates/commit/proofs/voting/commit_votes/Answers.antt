@@ -1,21 +1,13 @@
-use Prim.Native.Nat.{ℕ, ◌≤◌, ◌-◌}
-use mathlib.Core.Path.{◌≡◌, refl, sym, ap, ◌∙◌}
-use mathlib.Core.Logic.{⊎_elim}
-use mathlib.Core.List.{List}
+use mathlib.Core.Path.{refl, sym, ap, ◌∙◌}
 use native.Mathlib.Omega.{arith}
-use borrow.Author.Tests.{not-true, not-false}
-use lib.ListN.{length}
 use Rattle.bincode.specs.Items.{plain, stay}
 use Rattle.bincode.specs.Sizes.{base}
 use Rattle.bincode.proofs.ReadLaws.{held_next}
-use Rattle.bincode.proofs.RereadLaws.{Handling, handle_refused, reread_start, reread_more, reread_end}
-use Rattle.pub_key_map.specs.PubKeyMap.{nodes_of}
+use Rattle.bincode.proofs.RereadLaws.{handle_refused, reread_start, reread_more, reread_end}
 use Rattle.votes.specs.declared.ReadVoteHead.{ReadVoteHead}
 use Rattle.votes.specs.VoteHead.{head_of}
 use Rattle.votes.specs.Votes.{no_signed, read_signed_vote}
-use Rattle.steps.specs.Steps.{WorkOf, committed_vote}
-use Rattle.commit.specs.Tally.{Begun}
-use Rattle.commit.specs.Votes.{HeldAt}
+use Rattle.steps.specs.Steps.{committed_vote}
 use Rattle.commit.proofs.VoteLaws.{held_old}
 use Rattle.commit.proofs.voting.commit_votes.Goals as goal
 use Rattle.commit.proofs.voting.commit_votes.Goals.{else-not-is_obsolete, then-not-is_obsolete}

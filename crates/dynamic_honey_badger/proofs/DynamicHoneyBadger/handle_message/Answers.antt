@@ -1,5 +1,5 @@
 use mathlib.Core.Path.{◌≡◌, refl, sym, ap, ◌∙◌, subst}
-use lib.ListN.{length, length-map}
+use lib.ListN.{length}
 use Rattle.bincode.specs.Read.{whole}
 use Rattle.bincode.specs.Sizes.{base}
 use Rattle.vote_counter.specs.VoteCounter.{counter_of}

@@ -1,15 +1,11 @@
 use Rattle.std.proofs.Common.{rules}
 use borrow.Author.Tests.{not-true, not-false}
 use mathlib.Core.Bool.{Bool}
-use mathlib.Core.Path.{◌≡◌, refl, sym, ap, ◌∙◌}
-use Prim.Native.Nat.{◌≤◌, ◌-◌}
+use mathlib.Core.Path.{refl, sym, ap, ◌∙◌}
 use native.Mathlib.Omega.{arith}
-use lib.ListN.{length, drop}
-use Rattle.bincode.specs.Sizes.{base}
 use Rattle.votes.specs.Votes.{signed_of}
 use Rattle.vote_counter.specs.Answers.{said_found}
 use Rattle.vote_counter.specs.VoteCounter.{counter_of, pending_votes}
-use Rattle.dynamic_honey_badger.specs.Asked.{some_by}
 use Rattle.dynamic_honey_badger.proofs.AskedLaws.{pending_few, some_hit, some_miss, some_none, some_past}
 use Rattle.dynamic_honey_badger.proofs.DynamicHoneyBadger.has_own_vote.Goals as goal
 

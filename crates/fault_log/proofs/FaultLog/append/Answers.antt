@@ -1,5 +1,5 @@
 use mathlib.Core.Path.{◌≡◌}
-use lib.ListN.{length, length-map}
+use lib.ListN.{length}
 use Rattle.lists.proofs.ListLaws.{append_held, append_full}
 use Rattle.bincode.specs.Sizes.{base}
 use Rattle.fault_log.proofs.FaultLog.append.Goals as goal

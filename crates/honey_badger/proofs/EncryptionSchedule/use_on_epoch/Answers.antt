@@ -1,7 +1,7 @@
 use Prim.Native.Nat.{◌<◌}
 use mathlib.Core.Path.{◌≡◌, sym, ap, ◌∙◌, subst}
 use mathlib.Core.Logic.{⊎_elim}
-use borrow.Author.Tests.{ltb-true, ltb-false, lt-ltb, le-ltb}
+use borrow.Author.Tests.{lt-ltb, le-ltb}
 use Rattle.bincode.specs.Outcome.{done}
 use Rattle.honey_badger.specs.EncryptionSchedule.{is_below, use_on_epoch}
 use Rattle.honey_badger.proofs.ScheduleLaws.{use_zero, use_long}

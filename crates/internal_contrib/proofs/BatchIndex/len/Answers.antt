@@ -1,6 +1,6 @@
 use native.Mathlib.Omega.{arith}
 use mathlib.Core.Path.{◌≡◌, sym}
-use lib.ListN.{length, length-map}
+use lib.ListN.{length}
 use Rattle.lists.proofs.ListLaws.{length_live}
 use Rattle.bincode.specs.Sizes.{base}
 use Rattle.internal_contrib.proofs.BatchIndex.len.Goals as goal

@@ -1,12 +1,8 @@
 use Rattle.std.proofs.Common.{rules}
-use mathlib.Core.Path.{◌≡◌, refl, sym, ap, ◌∙◌}
-use Prim.Native.Nat.{◌≤◌, ◌-◌}
+use mathlib.Core.Path.{refl, sym, ap, ◌∙◌}
 use native.Mathlib.Omega.{arith}
-use lib.ListN.{length, drop}
-use Rattle.lists.specs.Lists.{lookup}
 use Rattle.lists.proofs.ListLaws.{rest_more}
 use Rattle.lists.proofs.SortedLaws.{lookup_hit, lookup_miss, lookup_end}
-use Rattle.bincode.specs.Sizes.{base}
 use Rattle.internal_contrib.specs.Index.{contribs_in, contrib_id, place_by}
 use Rattle.internal_contrib.proofs.BatchIndex.place_of.Goals as goal
 

@@ -1,12 +1,10 @@
 use Rattle.std.proofs.Common.{rules}
 use mathlib.Core.Path.{◌≡◌, refl}
-use mathlib.Core.Logic.{⊎_elim}
-use Prim.Native.Nat.{◌≤◌, ◌-◌, ◌+◌}
 use native.Mathlib.Omega.{arith}
-use lib.ListN.{length, drop, length-map}
-use Rattle.lists.specs.Lists.{marked, filter}
+use lib.ListN.{length}
+use Rattle.lists.specs.Lists.{filter}
 use Rattle.bincode.specs.Sizes.{base}
-use Rattle.key_gen.specs.KeyGen.{key_gen_of, is_recorded, proposal_at, threshold, count_complete}
+use Rattle.key_gen.specs.KeyGen.{key_gen_of, threshold, count_complete}
 use Rattle.key_gen.proofs.KeyGenLaws.{blank, completed, complete_more, complete_same, count_more, count_same, count_none, count_end}
 use Rattle.key_gen.proofs.KeyGen.count_complete.Goals as goal
 use Rattle.key_gen.proofs.KeyGen.count_complete.Goals.{else-p, then-p+else-t-ack_count, then-p+then-t-ack_count}

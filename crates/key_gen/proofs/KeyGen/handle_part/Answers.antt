@@ -4,7 +4,7 @@ use Prim.Native.Nat.{◌<◌}
 use native.Mathlib.Omega.{arith}
 use borrow.Author.Tests.{eq-eqb, ne_eqb}
 use lib.Dec.{eqb}
-use lib.ListN.{length, get_or, length-map}
+use lib.ListN.{length, get_or}
 use Rattle.lists.specs.Lists.{found, nothing, lookup}
 use Rattle.lists.proofs.ListLaws.{cond_yes, cond_no}
 use Rattle.bincode.specs.Sizes.{base}

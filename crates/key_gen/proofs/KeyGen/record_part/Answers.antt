@@ -1,6 +1,6 @@
 use mathlib.Core.Path.{◌≡◌, refl, sym, ◌∙◌}
 use native.Mathlib.Omega.{arith}
-use lib.ListN.{length, length-map}
+use lib.ListN.{length}
 use mathlib.Core.Bool.{true, false}
 use Rattle.bincode.specs.Sizes.{base}
 use Rattle.key_gen.specs.KeyGen.{key_gen_of}

@@ -1,12 +1,8 @@
-use mathlib.Core.Path.{◌≡◌, sym, ap, ◌∙◌}
-use mathlib.Core.Logic.{⊎_elim}
-use mathlib.Core.Bool.{not}
 use Prim.Native.Nat.{◌-◌}
-use lib.ListN.{length, length-map}
-use Rattle.lists.proofs.KeptLaws.{Keeping, keep_start, keep_yes, keep_no, keep_end}
+use Rattle.lists.proofs.KeptLaws.{Keeping}
 use Rattle.bincode.specs.Sizes.{base}
 use Rattle.key_gen_message.specs.KeyGenMessage.{signed_of}
-use Rattle.message_store.specs.MessageStore.{is_other, without}
+use Rattle.message_store.specs.MessageStore.{is_other}
 use Rattle.message_store.proofs.MessageStore.without.Given as goal
 
 abbrev pub invariant-loop-i : goal.invariant-loop-i

@@ -1,7 +1,6 @@
-use borrow.Author.Rules.{rules, scaled_Fits}
-use Prim.Native.Nat.{◌-◌}
+use borrow.Author.Rules.{scaled_Fits}
 use lib.ListN.{length, take}
-use Rattle.process_batch.proofs.CopyLaws.{PutTo, put_start, put_length, copy_from, copy_place, copy_turn, copy_end}
+use Rattle.process_batch.proofs.CopyLaws.{put_start, put_length, copy_from, copy_place, copy_turn, copy_end}
 use Rattle.process_batch.proofs.copying.copy_indices.Goals as goal
 
 pub loop-i-init : goal.loop-i-init

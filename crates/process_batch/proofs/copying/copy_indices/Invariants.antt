@@ -1,7 +1,6 @@
-use borrow.Author.Rules.{rules, scaled_Fits}
 use Prim.Native.Nat.{◌-◌}
-use lib.ListN.{length, take}
-use Rattle.process_batch.proofs.CopyLaws.{PutTo, put_start, put_length, copy_from, copy_place, copy_turn, copy_end}
+use lib.ListN.{take}
+use Rattle.process_batch.proofs.CopyLaws.{PutTo}
 use Rattle.process_batch.proofs.copying.copy_indices.Given as goal
 
 abbrev pub invariant-loop-i : goal.invariant-loop-i

@@ -1,6 +1,5 @@
-use Prim.Native.Nat.{◌-◌}
 use lib.ListN.{take}
-use Rattle.process_batch.proofs.CopyLaws.{PutTo, put_start, put_length, copy_from, copy_place, copy_turn, copy_end}
+use Rattle.process_batch.proofs.CopyLaws.{put_start, put_length, copy_from, copy_place, copy_turn, copy_end}
 use Rattle.process_batch.proofs.copying.copy_kinds.Goals as goal
 
 pub loop-i-init : goal.loop-i-init

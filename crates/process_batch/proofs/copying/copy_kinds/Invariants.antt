@@ -1,6 +1,6 @@
 use Prim.Native.Nat.{◌-◌}
 use lib.ListN.{take}
-use Rattle.process_batch.proofs.CopyLaws.{PutTo, put_start, put_length, copy_from, copy_place, copy_turn, copy_end}
+use Rattle.process_batch.proofs.CopyLaws.{PutTo}
 use Rattle.process_batch.proofs.copying.copy_kinds.Given as goal
 
 abbrev pub invariant-loop-i : goal.invariant-loop-i

@@ -1,7 +1,6 @@
-use borrow.Author.Rules.{rules, scaled_Fits}
-use Prim.Native.Nat.{◌-◌}
+use borrow.Author.Rules.{scaled_Fits}
 use lib.ListN.{length, replicate}
-use Rattle.process_batch.proofs.CopyLaws.{PutTo, put_start, put_length, fill_within, fill_place, fill_turn, fill_end}
+use Rattle.process_batch.proofs.CopyLaws.{put_start, put_length, fill_within, fill_place, fill_turn, fill_end}
 use Rattle.process_batch.proofs.copying.fill_eras.Goals as goal
 
 pub loop-i-init : goal.loop-i-init

@@ -1,7 +1,6 @@
-use borrow.Author.Rules.{rules, scaled_Fits}
 use Prim.Native.Nat.{◌-◌}
-use lib.ListN.{length, replicate}
-use Rattle.process_batch.proofs.CopyLaws.{PutTo, put_start, put_length, fill_within, fill_place, fill_turn, fill_end}
+use lib.ListN.{replicate}
+use Rattle.process_batch.proofs.CopyLaws.{PutTo}
 use Rattle.process_batch.proofs.copying.fill_eras.Given as goal
 
 abbrev pub invariant-loop-i : goal.invariant-loop-i

@@ -1,6 +1,5 @@
-use Prim.Native.Nat.{◌-◌}
 use lib.ListN.{replicate}
-use Rattle.process_batch.proofs.CopyLaws.{PutTo, put_start, put_length, fill_place, fill_turn, fill_end}
+use Rattle.process_batch.proofs.CopyLaws.{put_start, put_length, fill_place, fill_turn, fill_end}
 use Rattle.process_batch.proofs.copying.fill_kinds.Goals as goal
 
 pub loop-i-init : goal.loop-i-init

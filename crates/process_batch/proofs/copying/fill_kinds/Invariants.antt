@@ -1,6 +1,6 @@
 use Prim.Native.Nat.{◌-◌}
 use lib.ListN.{replicate}
-use Rattle.process_batch.proofs.CopyLaws.{PutTo, put_start, put_length, fill_place, fill_turn, fill_end}
+use Rattle.process_batch.proofs.CopyLaws.{PutTo}
 use Rattle.process_batch.proofs.copying.fill_kinds.Given as goal
 
 abbrev pub invariant-loop-i : goal.invariant-loop-i

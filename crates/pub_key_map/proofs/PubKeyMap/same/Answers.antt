@@ -1,12 +1,11 @@
 use Rattle.std.proofs.Common.{rules}
 use mathlib.Core.Path.{◌≡◌, refl, sym, ◌∙◌}
-use Prim.Native.Nat.{◌≤◌, ◌-◌, ◌+◌}
+use Prim.Native.Nat.{◌+◌}
 use mathlib.Core.List.{◌∷◌}
 use native.Mathlib.Omega.{arith}
-use lib.ListN.{length, drop, get_or}
+use lib.ListN.{drop, get_or}
 use Rattle.lists.proofs.ListLaws.{rest_more, eq_lengths, eq_turn, eq_stop, eq_end}
-use Rattle.bincode.specs.Sizes.{base}
-use Rattle.pub_key_map.specs.PubKeyMap.{nodes_of, no_node, same_node, same_nodes}
+use Rattle.pub_key_map.specs.PubKeyMap.{nodes_of, no_node, same_node}
 use Rattle.pub_key_map.proofs.PubKeyMap.same.Goals as goal
 
 pub returns-then-n-len : goal.returns-then-n-len

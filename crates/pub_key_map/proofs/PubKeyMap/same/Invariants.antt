@@ -1,11 +1,8 @@
-use mathlib.Core.Path.{◌≡◌, refl, sym, ◌∙◌}
-use Prim.Native.Nat.{◌≤◌, ◌-◌, ◌+◌}
-use mathlib.Core.List.{◌∷◌}
-use native.Mathlib.Omega.{arith}
-use lib.ListN.{length, drop, get_or}
-use Rattle.lists.proofs.ListLaws.{rest_more, eq_lengths, eq_turn, eq_stop, eq_end}
+use mathlib.Core.Path.{◌≡◌}
+use Prim.Native.Nat.{◌≤◌, ◌-◌}
+use lib.ListN.{length, drop}
 use Rattle.bincode.specs.Sizes.{base}
-use Rattle.pub_key_map.specs.PubKeyMap.{nodes_of, no_node, same_node, same_nodes}
+use Rattle.pub_key_map.specs.PubKeyMap.{nodes_of, same_nodes}
 use Rattle.pub_key_map.proofs.PubKeyMap.same.Given as goal
 
 abbrev pub invariant-loop-i : goal.invariant-loop-i

@@ -1,18 +1,15 @@
 use Rattle.std.proofs.Common.{rules}
 use mathlib.Core.Path.{◌≡◌, refl, sym, ap, ◌∙◌}
-use mathlib.Core.Logic.{⊎_elim}
-use mathlib.Core.List.{map}
-use mathlib.Core.Bool.{◌||◌}
-use Prim.Native.Nat.{◌≤◌, ◌-◌}
+use Prim.Native.Nat.{◌≤◌}
 use native.Mathlib.Omega.{arith}
-use lib.ListN.{length, drop, length-map}
+use lib.ListN.{length}
 use Rattle.util.specs.MaxFaulty.{max_faulty}
 use Rattle.bincode.specs.Sizes.{base}
 use Rattle.key_gen.proofs.KeyGenLaws.{blank}
-use Rattle.recipe.specs.Recipe.{no_share, some_short}
+use Rattle.recipe.specs.Recipe.{no_share}
 use Rattle.recipe.specs.Places.{share_for}
-use Rattle.recipe.proofs.FillLaws.{Filled, fill_start, fill_more, fill_end}
-use Rattle.recipe.proofs.RecipeLaws.{parts_from, short_more, short_same, short_end, map_more, map_end, recipe_held}
+use Rattle.recipe.proofs.FillLaws.{fill_start, fill_more, fill_end}
+use Rattle.recipe.proofs.RecipeLaws.{short_more, short_same, short_end, map_more, map_end, recipe_held}
 use Rattle.recipe.proofs.Recipe.generate.Goals as goal
 use Rattle.recipe.proofs.Recipe.generate.Goals.{else-is_short, then-is_short}
 

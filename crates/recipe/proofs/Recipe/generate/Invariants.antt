@@ -1,17 +1,13 @@
-use mathlib.Core.Path.{◌≡◌, refl, sym, ap, ◌∙◌}
-use mathlib.Core.Logic.{⊎_elim}
+use mathlib.Core.Path.{◌≡◌}
 use mathlib.Core.List.{map}
 use mathlib.Core.Bool.{◌||◌}
 use Prim.Native.Nat.{◌≤◌, ◌-◌}
-use native.Mathlib.Omega.{arith}
-use lib.ListN.{length, drop, length-map}
-use Rattle.util.specs.MaxFaulty.{max_faulty}
+use lib.ListN.{drop}
 use Rattle.bincode.specs.Sizes.{base}
-use Rattle.key_gen.proofs.KeyGenLaws.{blank}
 use Rattle.recipe.specs.Recipe.{no_share, some_short}
 use Rattle.recipe.specs.Places.{share_for}
-use Rattle.recipe.proofs.FillLaws.{Filled, fill_start, fill_more, fill_end}
-use Rattle.recipe.proofs.RecipeLaws.{parts_from, short_more, short_same, short_end, map_more, map_end, recipe_held}
+use Rattle.recipe.proofs.FillLaws.{Filled}
+use Rattle.recipe.proofs.RecipeLaws.{parts_from}
 use Rattle.recipe.proofs.Recipe.generate.Given as goal
 
 abbrev pub invariant-loop-i : goal.invariant-loop-i

@@ -1,14 +1,9 @@
-use mathlib.Core.Path.{◌≡◌, refl, sym, ◌∙◌}
+use mathlib.Core.Path.{◌≡◌}
 use Prim.Native.Nat.{◌≤◌, ◌-◌}
-use native.Mathlib.Omega.{arith}
-use lib.ListN.{length, drop, length-map}
+use lib.ListN.{length, drop}
 use Rattle.lists.specs.Lists.{lookup}
-use Rattle.lists.proofs.ListLaws.{rest_more}
-use Rattle.lists.proofs.SortedLaws.{lookup_hit, lookup_miss, lookup_end}
 use Rattle.bincode.specs.Sizes.{base}
-use Rattle.votes.specs.Votes.{signed_of}
 use Rattle.signed_votes.specs.SignedVotes.{held, voter_in}
-use Rattle.signed_votes.proofs.VotesLaws.{held_num}
 use Rattle.signed_votes.proofs.SignedVotes.num_of.Given as goal
 
 abbrev pub invariant-loop-i : goal.invariant-loop-i

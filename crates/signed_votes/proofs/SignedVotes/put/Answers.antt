@@ -2,12 +2,12 @@ use Rattle.std.proofs.Common.{rules}
 use mathlib.Core.Path.{◌≡◌, sym, ap, ◌∙◌}
 use mathlib.Core.Bool.{true, false}
 use mathlib.Core.List.{map}
-use Prim.Native.Nat.{ℕ, ◌≤◌, ◌<◌}
+use Prim.Native.Nat.{ℕ, ◌<◌}
 use native.Mathlib.Omega.{arith}
 use lib.ListN.{length, take, length-map, length-set}
 use Rattle.lists.specs.Lists.{has_key}
 use Rattle.lists.proofs.ListLaws.{take_live}
-use Rattle.lists.proofs.SortedLaws.{Shifted, shift_start, shift_down, shift_done, put_new, put_full}
+use Rattle.lists.proofs.SortedLaws.{shift_start, shift_down, shift_done, put_new, put_full}
 use Rattle.bincode.specs.Sizes.{base}
 use Rattle.votes.specs.Votes.{signed_of}
 use Rattle.signed_votes.specs.SignedVotes.{held, voter_in, voter_of}

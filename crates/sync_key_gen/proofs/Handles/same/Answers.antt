@@ -1,14 +1,13 @@
 use Rattle.std.proofs.Common.{rules}
 use mathlib.Core.Path.{◌≡◌, refl, sym, ◌∙◌}
-use Prim.Native.Nat.{◌≤◌, ◌-◌, ◌+◌}
+use Prim.Native.Nat.{◌+◌}
 use mathlib.Core.List.{◌∷◌}
 use native.Mathlib.Omega.{arith}
 use lib.Dec.{eqb}
-use lib.ListN.{length, drop, get_or}
+use lib.ListN.{drop, get_or}
 use borrow.Author.Tests.{eq-eqb, ne_eqb}
 use Rattle.lists.proofs.ListLaws.{rest_more, eq_lengths, eq_turn, eq_stop, eq_end}
-use Rattle.bincode.specs.Sizes.{base}
-use Rattle.sync_key_gen.specs.SyncKeyGen.{handles_of, same_handles}
+use Rattle.sync_key_gen.specs.SyncKeyGen.{handles_of}
 use Rattle.sync_key_gen.proofs.Handles.same.Goals as goal
 
 pub returns-then-n-len : goal.returns-then-n-len

@@ -1,5 +1,4 @@
 use mathlib.Core.Path.{sym, ◌∙◌}
-use mathlib.Core.Logic.{⊎_elim}
 use borrow.Author.Tests.{eq-eqb, ne_eqb}
 use Rattle.lists.proofs.ListLaws.{cond_yes, cond_no}
 use Rattle.vote_counter.specs.VoteCounter.{add_pending, pending_effect, valid_vote}

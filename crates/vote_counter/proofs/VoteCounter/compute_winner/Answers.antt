@@ -3,11 +3,8 @@ use Rattle.lists.specs.Lists.{found, map_found}
 use Rattle.vote_counter.specs.declared.Winner.{Winner}
 use mathlib.Core.Path.{◌≡◌, refl, sym, ap, ◌∙◌}
 use native.Mathlib.Omega.{arith}
-use Prim.Native.Nat.{ℕ, ◌+◌, ◌-◌, ◌≤◌, ◌<◌}
+use Prim.Native.Nat.{ℕ, ◌+◌, ◌≤◌, ◌<◌}
 use lib.ListN.{length, take, drop, get_or, length-map, get_or-map}
-use mathlib.Core.List.{List, map}
-use mathlib.Core.Logic.{⊎_elim}
-use Rattle.bincode.specs.Sizes.{base}
 use Rattle.change.specs.Change.{ChangeOf, change_of, same_change}
 use Rattle.winner.specs.Winner.{support, place_after, winner_place}
 use Rattle.votes.specs.declared.SignedVote.{SignedVote}
@@ -17,7 +14,7 @@ use Rattle.signed_votes.specs.declared.SignedVotes.{SignedVotes}
 use Rattle.vote_counter.specs.VoteCounter.{compute_winner, winner_at, counter_of}
 use Rattle.vote_counter.specs.Answers.{choice_at, said_winner}
 use Rattle.vote_counter.specs.declared.VoteCounter.{VoteCounter}
-use Rattle.vote_counter.specs.declared.Winner.TheVariants.{Voter, Nobody}
+use Rattle.vote_counter.specs.declared.Winner.TheVariants.{Voter}
 use Rattle.lists.proofs.ViewLaws.{view_at}
 use Rattle.winner.proofs.SupportTurns.{count_yes, count_no}
 use Rattle.vote_counter.proofs.WinnerTurns.{voter_wins, voter_loses, voters_end}

@@ -1,16 +1,12 @@
 use Rattle.std.proofs.Common.{rules}
 use mathlib.Core.Bool.{true≢false}
-use mathlib.Core.Path.{◌≡◌, refl, sym, ◌∙◌}
+use mathlib.Core.Path.{refl, sym, ◌∙◌}
 use native.Mathlib.Omega.{arith}
-use Prim.Native.Nat.{◌-◌, ◌≤◌}
-use lib.ListN.{length, drop}
-use Rattle.lists.specs.Lists.{at_place, filter}
-use Rattle.bincode.specs.Sizes.{base}
 use Rattle.votes.specs.Votes.{signed_of}
 use Rattle.signed_votes.specs.SignedVotes.{votes_of}
 use Rattle.vote_counter.specs.VoteCounter.{pending_votes}
 use Rattle.lists.proofs.ViewLaws.{view_more}
-use Rattle.vote_counter.proofs.PendingTurns.{newer_than, turn_obsolete, turn_found, turn_passed, turn_none}
+use Rattle.vote_counter.proofs.PendingTurns.{turn_obsolete, turn_found, turn_passed, turn_none}
 use Rattle.vote_counter.proofs.VoteCounter.pending_vote.Goals as goal
 
 pub loop-i-init : goal.loop-i-init

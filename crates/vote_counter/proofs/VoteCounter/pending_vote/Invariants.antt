@@ -1,15 +1,10 @@
-use mathlib.Core.Bool.{true≢false}
-use mathlib.Core.Path.{◌≡◌, refl, sym, ◌∙◌}
-use native.Mathlib.Omega.{arith}
+use mathlib.Core.Path.{◌≡◌}
 use Prim.Native.Nat.{◌-◌, ◌≤◌}
 use lib.ListN.{length, drop}
 use Rattle.lists.specs.Lists.{at_place, filter}
 use Rattle.bincode.specs.Sizes.{base}
-use Rattle.votes.specs.Votes.{signed_of}
 use Rattle.signed_votes.specs.SignedVotes.{votes_of}
-use Rattle.vote_counter.specs.VoteCounter.{pending_votes}
-use Rattle.lists.proofs.ViewLaws.{view_more}
-use Rattle.vote_counter.proofs.PendingTurns.{newer_than, turn_obsolete, turn_found, turn_passed, turn_none}
+use Rattle.vote_counter.proofs.PendingTurns.{newer_than}
 use Rattle.vote_counter.proofs.VoteCounter.pending_vote.Given as goal
 
 abbrev pub invariant-loop-i : goal.invariant-loop-i

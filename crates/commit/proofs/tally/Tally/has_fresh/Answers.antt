@@ -1,11 +1,8 @@
 use Rattle.std.proofs.Common.{rules}
-use mathlib.Core.Path.{◌≡◌, refl, sym, ◌∙◌}
-use Prim.Native.Nat.{◌≤◌, ◌-◌}
+use mathlib.Core.Path.{refl, sym, ◌∙◌}
 use native.Mathlib.Omega.{arith}
-use lib.ListN.{length, drop}
 use Rattle.lists.proofs.ListLaws.{rest_more}
-use Rattle.bincode.specs.Sizes.{base}
-use Rattle.commit.specs.Tally.{entries_of, no_entry, any_fresh}
+use Rattle.commit.specs.Tally.{entries_of, no_entry}
 use Rattle.commit.proofs.TurnLaws.{fresh_here, fresh_past, fresh_end}
 use Rattle.commit.proofs.tally.Tally.has_fresh.Goals as goal
 

@@ -1,11 +1,8 @@
-use mathlib.Core.Path.{◌≡◌, refl, sym, ◌∙◌}
+use mathlib.Core.Path.{◌≡◌}
 use Prim.Native.Nat.{◌≤◌, ◌-◌}
-use native.Mathlib.Omega.{arith}
 use lib.ListN.{length, drop}
-use Rattle.lists.proofs.ListLaws.{rest_more}
 use Rattle.bincode.specs.Sizes.{base}
-use Rattle.commit.specs.Tally.{entries_of, no_entry, any_fresh}
-use Rattle.commit.proofs.TurnLaws.{fresh_here, fresh_past, fresh_end}
+use Rattle.commit.specs.Tally.{entries_of, any_fresh}
 use Rattle.commit.proofs.tally.Tally.has_fresh.Given as goal
 
 abbrev pub invariant-loop-i : goal.invariant-loop-i

@@ -1,12 +1,9 @@
 use Rattle.std.proofs.Common.{rules}
-use mathlib.Core.Path.{◌≡◌, refl, sym, ◌∙◌}
-use Prim.Native.Nat.{◌≤◌, ◌-◌}
+use mathlib.Core.Path.{refl, sym, ◌∙◌}
 use native.Mathlib.Omega.{arith}
-use lib.ListN.{length, drop}
-use Rattle.lists.specs.Lists.{nothing, lookup}
+use Rattle.lists.specs.Lists.{nothing}
 use Rattle.lists.proofs.ListLaws.{rest_more}
 use Rattle.lists.proofs.SortedLaws.{lookup_hit, lookup_miss, lookup_end}
-use Rattle.bincode.specs.Sizes.{base}
 use Rattle.commit.specs.Tally.{entries_of, entry_voter, no_entry}
 use Rattle.commit.proofs.TurnLaws.{outdated_by}
 use Rattle.commit.proofs.tally.Tally.is_obsolete.Goals as goal

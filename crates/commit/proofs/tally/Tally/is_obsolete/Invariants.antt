@@ -1,13 +1,9 @@
-use mathlib.Core.Path.{◌≡◌, refl, sym, ◌∙◌}
+use mathlib.Core.Path.{◌≡◌}
 use Prim.Native.Nat.{◌≤◌, ◌-◌}
-use native.Mathlib.Omega.{arith}
 use lib.ListN.{length, drop}
-use Rattle.lists.specs.Lists.{nothing, lookup}
-use Rattle.lists.proofs.ListLaws.{rest_more}
-use Rattle.lists.proofs.SortedLaws.{lookup_hit, lookup_miss, lookup_end}
+use Rattle.lists.specs.Lists.{lookup}
 use Rattle.bincode.specs.Sizes.{base}
-use Rattle.commit.specs.Tally.{entries_of, entry_voter, no_entry}
-use Rattle.commit.proofs.TurnLaws.{outdated_by}
+use Rattle.commit.specs.Tally.{entries_of, entry_voter}
 use Rattle.commit.proofs.tally.Tally.is_obsolete.Given as goal
 
 abbrev pub invariant-loop-i : goal.invariant-loop-i

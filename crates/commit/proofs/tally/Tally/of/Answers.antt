@@ -1,10 +1,9 @@
 use Rattle.std.proofs.Common.{rules}
-use mathlib.Core.Path.{◌≡◌, refl, ap, ◌∙◌}
-use Prim.Native.Nat.{◌≤◌, ◌<◌, ◌-◌}
+use mathlib.Core.Path.{refl, ap, ◌∙◌}
+use Prim.Native.Nat.{◌<◌}
 use native.Mathlib.Omega.{arith}
 use lib.ListN.{length, length-map, length-take}
-use Rattle.bincode.specs.Sizes.{base}
-use Rattle.filled.proofs.FillLaws.{FilledTo, fill_length, fill_start, fill_store, fill_end}
+use Rattle.filled.proofs.FillLaws.{fill_length, fill_start, fill_store, fill_end}
 use Rattle.votes.specs.Votes.{signed_of}
 use Rattle.signed_votes.specs.SignedVotes.{held}
 use Rattle.commit.specs.declared.tally.Tally.{Tally}

@@ -1,13 +1,10 @@
-use mathlib.Core.Path.{◌≡◌, refl, ap, ◌∙◌}
-use Prim.Native.Nat.{◌≤◌, ◌<◌, ◌-◌}
-use native.Mathlib.Omega.{arith}
-use lib.ListN.{length, length-map, length-take}
+use mathlib.Core.Path.{◌≡◌}
+use Prim.Native.Nat.{◌≤◌, ◌-◌}
+use lib.ListN.{length}
 use Rattle.bincode.specs.Sizes.{base}
-use Rattle.filled.proofs.FillLaws.{FilledTo, fill_length, fill_start, fill_store, fill_end}
-use Rattle.votes.specs.Votes.{signed_of}
+use Rattle.filled.proofs.FillLaws.{FilledTo}
 use Rattle.signed_votes.specs.SignedVotes.{held}
-use Rattle.commit.specs.declared.tally.Tally.{Tally}
-use Rattle.commit.proofs.TurnLaws.{kept_of, kept_filled}
+use Rattle.commit.proofs.TurnLaws.{kept_of}
 use Rattle.commit.proofs.tally.Tally.of.Given as goal
 
 abbrev pub invariant-loop-i : goal.invariant-loop-i

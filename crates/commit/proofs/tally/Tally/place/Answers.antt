@@ -1,12 +1,8 @@
 use Rattle.std.proofs.Common.{rules}
-use mathlib.Core.Path.{◌≡◌, sym, ◌∙◌}
-use Prim.Native.Nat.{◌≤◌, ◌-◌, ◌+◌}
+use mathlib.Core.Path.{sym, ◌∙◌}
 use native.Mathlib.Omega.{arith}
-use lib.ListN.{length, drop}
-use Rattle.lists.specs.Lists.{below}
 use Rattle.lists.proofs.ListLaws.{rest_more}
 use Rattle.lists.proofs.SortedLaws.{below_more, below_stop, below_end}
-use Rattle.bincode.specs.Sizes.{base}
 use Rattle.commit.specs.Tally.{entries_of, entry_voter, no_entry}
 use Rattle.commit.proofs.tally.Tally.place.Goals as goal
 

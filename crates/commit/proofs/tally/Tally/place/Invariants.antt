@@ -1,12 +1,9 @@
-use mathlib.Core.Path.{◌≡◌, sym, ◌∙◌}
+use mathlib.Core.Path.{◌≡◌}
 use Prim.Native.Nat.{◌≤◌, ◌-◌, ◌+◌}
-use native.Mathlib.Omega.{arith}
 use lib.ListN.{length, drop}
 use Rattle.lists.specs.Lists.{below}
-use Rattle.lists.proofs.ListLaws.{rest_more}
-use Rattle.lists.proofs.SortedLaws.{below_more, below_stop, below_end}
 use Rattle.bincode.specs.Sizes.{base}
-use Rattle.commit.specs.Tally.{entries_of, entry_voter, no_entry}
+use Rattle.commit.specs.Tally.{entries_of, entry_voter}
 use Rattle.commit.proofs.tally.Tally.place.Given as goal
 
 abbrev pub invariant-loop-i : goal.invariant-loop-i
