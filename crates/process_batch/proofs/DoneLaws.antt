@@ -136,13 +136,13 @@ module _ (s v u : DynamicHoneyBadger) (t : Told) (kept : List SignedKeyGenMsgOf)
     (h : RanAs (parts_in v t) s.params s.vote_counter s.key_gen_state (store_of s.store) kept fs ds (processed base (state_of s) b))
     (stored : store_of v.store ≡ store_by t.report.outcome t.restarted t.era (store_of s.store) kept)
     (same : (n : ℕ) → t.report.outcome ≡ outcome.Refused n → v.store ≡ s.store) (l : ReportStamp)
-    (by_Last : l ≡ last_by t.report.outcome t.report.batch.epoch t.report.batch.era s.last)
+    (by_last : l ≡ last_by t.report.outcome t.report.batch.epoch t.report.batch.era s.last)
     (ends : u ≡ record { params = v.params; vote_counter = v.vote_counter; key_gen_state = v.key_gen_state; store = v.store; last = l }) where
   -- state and report
   pub answered_as : ProcessedAs (answered u t) (processed base (state_of s) b)
   answered_as =
       let q = stored ∙ h.by_store in
-      let kept-last = ap stamp_held by_Last ∙ last_said t.report.outcome (held_summary t.report) s.last (processed base (state_of s) b).answer h.by_report ∙ sym (processed_last base (state_of s) b) in
+      let kept-last = ap stamp_held by_last ∙ last_said t.report.outcome (held_summary t.report) s.last (processed base (state_of s) b).answer h.by_report ∙ sym (processed_last base (state_of s) b) in
       let e : state_of u ≡ (processed base (state_of s) b).state
       = ap state_of ends ∙ (λ j. record { counter = h.by_counter j; params = h.by_params j; key_gen = h.by_key_gen j; store = q j; last = kept-last j }) in
       (e, h.by_report)
@@ -151,7 +151,7 @@ module _ (s v u : DynamicHoneyBadger) (t : Told) (kept : List SignedKeyGenMsgOf)
   pub answered_keeps : BatchRefusedKeeps (answered u t) s
   answered_keeps n e =
       let g = h.refused_keeps n e in
-      let left = by_Last ∙ ap (λ (o : BatchOutcome). last_by o t.report.batch.epoch t.report.batch.era s.last) e in
+      let left = by_last ∙ ap (λ (o : BatchOutcome). last_by o t.report.batch.epoch t.report.batch.era s.last) e in
       let a : u ≡ s =
       ends ∙ (λ j. record { params = (g j).params; vote_counter = (g j).vote_counter; key_gen_state = (g j).key_gen_state; store = same n e j; last = left j }) in
       λ j. answered (a j) (g j).told

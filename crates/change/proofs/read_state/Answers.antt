@@ -45,22 +45,22 @@ returns-in_default-step c =
 pub returns-then-tag-eq1 : goal.returns-then-tag-eq1
 returns-then-tag-eq1 c =
     let tag_read : read_num 4 c.args.s.now c.args.at ≡ value c.in-Value.tag c.in-Value.c = sym c.read_u32.ensures ∙ ap said32 c.in-Value.is in
-    let change-read : (x : ChangeOf) × (read_change fixed base c.args.s.now c.in-Value.c ≡ value x c.in-Next.d) × (c.read_change-r.result.change ≡ change_held x) =
+    let change_read : (x : ChangeOf) × (read_change fixed base c.args.s.now c.in-Value.c ≡ value x c.in-Next.d) × (c.read_change-r.result.change ≡ change_held x) =
     let e = c.read_change-r.ensures in
     let x = step_next (read_change fixed base c.args.s.now c.in-Value.c) _ (sym (ap (λ (r : ReadChange). r.step) e) ∙ c.in-Next.is) in
     (x.0, x.1, ap (λ (r : ReadChange). r.change) e ∙ ap (held_of change_held (change_held (node_change []))) x.1) in
-    let x = change-read in
+    let x = change_read in
     rw (state_in_progress base _ _ _ _ (tag_read) _ _ c.if-tag-eq1.true x.1)
     (ap {B = ReadState} (λ (x : Change). record { step = Next c.in-Next.d; state = record { progress = InProgress; change = x } }) x.2)
 
 pub returns : goal.returns
 returns c =
     let tag_read : read_num 4 c.args.s.now c.args.at ≡ value c.in-Value.tag c.in-Value.c = sym c.read_u32.ensures ∙ ap said32 c.in-Value.is in
-    let change-read : (x : ChangeOf) × (read_change fixed base c.args.s.now c.in-Value.c ≡ value x c.in-Next.d) × (c.read_change-r.result.change ≡ change_held x) =
+    let change_read : (x : ChangeOf) × (read_change fixed base c.args.s.now c.in-Value.c ≡ value x c.in-Next.d) × (c.read_change-r.result.change ≡ change_held x) =
     let e = c.read_change-r.ensures in
     let x = step_next (read_change fixed base c.args.s.now c.in-Value.c) _ (sym (ap (λ (r : ReadChange). r.step) e) ∙ c.in-Next.is) in
     (x.0, x.1, ap (λ (r : ReadChange). r.change) e ∙ ap (held_of change_held (change_held (node_change []))) x.1) in
-    let x = change-read in
+    let x = change_read in
     let t : c.in-Value.tag ≡ 2 = omega (arith, c.if-tag-eq0.false, c.if-tag-gt2.false, c.if-tag-eq1.false) in
     rw (state_complete base _ _ _ _ (tag_read) _ _ t x.1)
     (ap {B = ReadState} (λ (x : Change). record { step = Next c.in-Next.d; state = record { progress = Complete; change = x } }) x.2)

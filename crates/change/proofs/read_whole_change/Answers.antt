@@ -16,12 +16,12 @@ returns-in_default c =
 
 pub returns-then-c-s : goal.returns-then-c-s
 returns-then-c-s c =
-    let change-read : (x : ChangeOf) × (read_change fixed base c.args.s.now 0 ≡ value x c.in-Next.c) = step_next (read_change fixed base c.args.s.now 0) _ (sym (ap (λ (r : ReadChange). r.step) c.read_change-r.ensures) ∙ c.in-Next.is) in
-    let x = change-read in
+    let change_read : (x : ChangeOf) × (read_change fixed base c.args.s.now 0 ≡ value x c.in-Next.c) = step_next (read_change fixed base c.args.s.now 0) _ (sym (ap (λ (r : ReadChange). r.step) c.read_change-r.ensures) ∙ c.in-Next.is) in
+    let x = change_read in
     c.refused_change.ensures ∙ ap change_answer (sym (whole_left (read_change fixed base c.args.s.now) _ _ _ x.1 c.if-c-s.true))
 
 pub returns : goal.returns
 returns c =
-    let change-read : (x : ChangeOf) × (read_change fixed base c.args.s.now 0 ≡ value x c.in-Next.c) = step_next (read_change fixed base c.args.s.now 0) _ (sym (ap (λ (r : ReadChange). r.step) c.read_change-r.ensures) ∙ c.in-Next.is) in
-    let x = change-read in
+    let change_read : (x : ChangeOf) × (read_change fixed base c.args.s.now 0 ≡ value x c.in-Next.c) = step_next (read_change fixed base c.args.s.now 0) _ (sym (ap (λ (r : ReadChange). r.step) c.read_change-r.ensures) ∙ c.in-Next.is) in
+    let x = change_read in
     c.read_change-r.ensures ∙ ap change_answer (x.1 ∙ sym (whole_read (read_change fixed base c.args.s.now) _ _ _ x.1 c.if-c-s.false))

@@ -14,10 +14,10 @@ returns-in_default c =
 
 pub returns-then-c-s : goal.returns-then-c-s
 returns-then-c-s c =
-    let schedule-read : read_schedule fixed c.args.s.now 0 ≡ value c.in-Value.x c.in-Value.c = sym c.read_schedule-r.ensures ∙ ap said_schedule c.in-Value.is in
-    sym (whole_left (read_schedule fixed c.args.s.now) _ _ _ (schedule-read) c.if-c-s.true)
+    let schedule_read : read_schedule fixed c.args.s.now 0 ≡ value c.in-Value.x c.in-Value.c = sym c.read_schedule-r.ensures ∙ ap said_schedule c.in-Value.is in
+    sym (whole_left (read_schedule fixed c.args.s.now) _ _ _ (schedule_read) c.if-c-s.true)
 
 pub returns : goal.returns
 returns c =
-    let schedule-read : read_schedule fixed c.args.s.now 0 ≡ value c.in-Value.x c.in-Value.c = sym c.read_schedule-r.ensures ∙ ap said_schedule c.in-Value.is in
-    sym (whole_read (read_schedule fixed c.args.s.now) _ _ _ (schedule-read) c.if-c-s.false)
+    let schedule_read : read_schedule fixed c.args.s.now 0 ≡ value c.in-Value.x c.in-Value.c = sym c.read_schedule-r.ensures ∙ ap said_schedule c.in-Value.is in
+    sym (whole_read (read_schedule fixed c.args.s.now) _ _ _ (schedule_read) c.if-c-s.false)

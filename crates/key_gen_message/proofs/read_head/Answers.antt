@@ -13,27 +13,27 @@ returns-in_default c = c.refused_head.ensures ∙ ap head_answer (era_cut base _
 
 pub returns-in_default-read_u32 : goal.returns-in_default-read_u32
 returns-in_default-read_u32 c =
-    let era-read : read_num 8 c.args.s.now c.args.at ≡ value c.in-Value.era c.in-Value.a = sym c.read_u64.ensures ∙ ap said64 c.in-Value.is in
-    c.refused_head-in_default-read_u32.ensures ∙ ap head_answer (id_cut base _ _ _ _ (era-read) _ (sym c.read_u32.ensures ∙ ap said32 c.in_default-read_u32.is))
+    let era_read : read_num 8 c.args.s.now c.args.at ≡ value c.in-Value.era c.in-Value.a = sym c.read_u64.ensures ∙ ap said64 c.in-Value.is in
+    c.refused_head-in_default-read_u32.ensures ∙ ap head_answer (id_cut base _ _ _ _ (era_read) _ (sym c.read_u32.ensures ∙ ap said32 c.in_default-read_u32.is))
 
 pub returns-in_default-read_u64 : goal.returns-in_default-read_u64
 returns-in_default-read_u64 c =
-    let era-read : read_num 8 c.args.s.now c.args.at ≡ value c.in-Value.era c.in-Value.a = sym c.read_u64.ensures ∙ ap said64 c.in-Value.is in
-    let id-read : read_num 4 c.args.s.now c.in-Value.a ≡ value c.in-Value-read_u32.id c.in-Value-read_u32.b = sym c.read_u32.ensures ∙ ap said32 c.in-Value-read_u32.is in
-    let body-read : map_read body_of (read_key_gen_message base c.args.s.now c.in-Value-read_u32.b) ≡ value c.in-Value-read_body.body c.in-Value-read_body.c = sym c.read_body.ensures ∙ ap said_body c.in-Value-read_body.is in
+    let era_read : read_num 8 c.args.s.now c.args.at ≡ value c.in-Value.era c.in-Value.a = sym c.read_u64.ensures ∙ ap said64 c.in-Value.is in
+    let id_read : read_num 4 c.args.s.now c.in-Value.a ≡ value c.in-Value-read_u32.id c.in-Value-read_u32.b = sym c.read_u32.ensures ∙ ap said32 c.in-Value-read_u32.is in
+    let body_read : map_read body_of (read_key_gen_message base c.args.s.now c.in-Value-read_u32.b) ≡ value c.in-Value-read_body.body c.in-Value-read_body.c = sym c.read_body.ensures ∙ ap said_body c.in-Value-read_body.is in
     c.refused_head-in_default-read_u64.ensures
-    ∙ ap head_answer (sig_cut base _ _ _ _ (era-read) _ _ (id-read) _ _ (body-read) _ (sym c.read_u64-in-Value-read_body.ensures ∙ ap said64 c.in_default-read_u64.is))
+    ∙ ap head_answer (sig_cut base _ _ _ _ (era_read) _ _ (id_read) _ _ (body_read) _ (sym c.read_u64-in-Value-read_body.ensures ∙ ap said64 c.in_default-read_u64.is))
 
 pub returns-in-Value-read_u64 : goal.returns-in-Value-read_u64
 returns-in-Value-read_u64 c =
-    let era-read : read_num 8 c.args.s.now c.args.at ≡ value c.in-Value.era c.in-Value.a = sym c.read_u64.ensures ∙ ap said64 c.in-Value.is in
-    let id-read : read_num 4 c.args.s.now c.in-Value.a ≡ value c.in-Value-read_u32.id c.in-Value-read_u32.b = sym c.read_u32.ensures ∙ ap said32 c.in-Value-read_u32.is in
-    let body-read : map_read body_of (read_key_gen_message base c.args.s.now c.in-Value-read_u32.b) ≡ value c.in-Value-read_body.body c.in-Value-read_body.c = sym c.read_body.ensures ∙ ap said_body c.in-Value-read_body.is in
-    head_whole base _ _ _ _ (era-read) _ _ (id-read) _ _ (body-read) _ _ (sym c.read_u64-in-Value-read_body.ensures ∙ ap said64 c.in-Value-read_u64.is)
+    let era_read : read_num 8 c.args.s.now c.args.at ≡ value c.in-Value.era c.in-Value.a = sym c.read_u64.ensures ∙ ap said64 c.in-Value.is in
+    let id_read : read_num 4 c.args.s.now c.in-Value.a ≡ value c.in-Value-read_u32.id c.in-Value-read_u32.b = sym c.read_u32.ensures ∙ ap said32 c.in-Value-read_u32.is in
+    let body_read : map_read body_of (read_key_gen_message base c.args.s.now c.in-Value-read_u32.b) ≡ value c.in-Value-read_body.body c.in-Value-read_body.c = sym c.read_body.ensures ∙ ap said_body c.in-Value-read_body.is in
+    head_whole base _ _ _ _ (era_read) _ _ (id_read) _ _ (body_read) _ _ (sym c.read_u64-in-Value-read_body.ensures ∙ ap said64 c.in-Value-read_u64.is)
 
 pub returns-in-Refused : goal.returns-in-Refused
 returns-in-Refused c =
-    let era-read : read_num 8 c.args.s.now c.args.at ≡ value c.in-Value.era c.in-Value.a = sym c.read_u64.ensures ∙ ap said64 c.in-Value.is in
-    let id-read : read_num 4 c.args.s.now c.in-Value.a ≡ value c.in-Value-read_u32.id c.in-Value-read_u32.b = sym c.read_u32.ensures ∙ ap said32 c.in-Value-read_u32.is in
+    let era_read : read_num 8 c.args.s.now c.args.at ≡ value c.in-Value.era c.in-Value.a = sym c.read_u64.ensures ∙ ap said64 c.in-Value.is in
+    let id_read : read_num 4 c.args.s.now c.in-Value.a ≡ value c.in-Value-read_u32.id c.in-Value-read_u32.b = sym c.read_u32.ensures ∙ ap said32 c.in-Value-read_u32.is in
     c.refused_head-in-Refused.ensures
-    ∙ ap head_answer (message_cut base _ _ _ _ (era-read) _ _ (id-read) _ (sym c.read_body.ensures ∙ ap said_body c.in-Refused.is))
+    ∙ ap head_answer (message_cut base _ _ _ _ (era_read) _ _ (id_read) _ (sym c.read_body.ensures ∙ ap said_body c.in-Refused.is))

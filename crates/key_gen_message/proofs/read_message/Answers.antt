@@ -33,10 +33,10 @@ pub returns-then-tag-eq0 : goal.returns-then-tag-eq0
 unfolding read_key_gen_message
 returns-then-tag-eq0 c =
     let tag_read : read_num 4 c.args.s.now c.args.at ≡ value c.in-Value.tag c.in-Value.c = sym c.read_u32.ensures ∙ ap said32 c.in-Value.is in
-    let part-read : (p : PartOf) × (read_part base c.args.s.now c.in-Value.c ≡ value p c.in-Next.d) × (c.read_part-r.result.part ≡ part_held p) =
+    let part_read : (p : PartOf) × (read_part base c.args.s.now c.in-Value.c ≡ value p c.in-Next.d) × (c.read_part-r.result.part ≡ part_held p) =
     let e = c.read_part-r.ensures in
     held_next (read_part base _ _) _ (ap (λ (r : ReadPart). r.step) e) part_held (part_held no_part) _ (ap (λ (r : ReadPart). r.part) e) _ c.in-Next.is in
-    let r = part-read in
+    let r = part_read in
     rw (tag_read, eq-eqb _ _ c.if-tag-eq0.true, r.1)
     (ap {B = ReadMessage} (λ (p : Part). record { step = Next c.in-Next.d; message = record { kind = kind.Part p.commit; handles = p.rows } }) r.2)
 
@@ -52,10 +52,10 @@ pub returns-then-tag-eq1 : goal.returns-then-tag-eq1
 unfolding read_key_gen_message
 returns-then-tag-eq1 c =
     let tag_read : read_num 4 c.args.s.now c.args.at ≡ value c.in-Value.tag c.in-Value.c = sym c.read_u32.ensures ∙ ap said32 c.in-Value.is in
-    let ack-read : (a : AckOf) × (read_ack base c.args.s.now c.in-Value.c ≡ value a c.in-Next-step.d) × (c.read_ack-r.result.ack ≡ ack_held a) =
+    let ack_read : (a : AckOf) × (read_ack base c.args.s.now c.in-Value.c ≡ value a c.in-Next-step.d) × (c.read_ack-r.result.ack ≡ ack_held a) =
     let e = c.read_ack-r.ensures in
     held_next (read_ack base _ _) _ (ap (λ (r : ReadAck). r.step) e) ack_held (ack_held no_ack) _ (ap (λ (r : ReadAck). r.ack) e) _ c.in-Next-step.is in
-    let r = ack-read in
+    let r = ack_read in
     rw (tag_read, ne_eqb _ _ c.if-tag-eq0.false, eq-eqb _ _ c.if-tag-eq1.true, r.1)
     (ap {B = ReadMessage} (λ (a : Ack). record { step = Next c.in-Next-step.d; message = record { kind = kind.Ack a.proposer; handles = a.values } }) r.2)
 

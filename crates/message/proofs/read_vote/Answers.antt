@@ -19,10 +19,10 @@ returns-in_default c =
 pub returns : goal.returns
 unfolding read_vote
 returns c =
-    let vote-read : (v : SignedVoteOf) × (read_signed_vote base c.args.s.now c.args.at ≡ value v c.in-Next.c) × (c.read_signed_vote-r.result.signed ≡ signed_held v) =
+    let vote_read : (v : SignedVoteOf) × (read_signed_vote base c.args.s.now c.args.at ≡ value v c.in-Next.c) × (c.read_signed_vote-r.result.signed ≡ signed_held v) =
     let e = c.read_signed_vote-r.ensures in
     held_next (read_signed_vote base _ _) _ (ap (λ (r : ReadSignedVote). r.step) e) signed_held (signed_held no_signed) _ (ap (λ (r : ReadSignedVote). r.signed) e) _ c.in-Next.is in
-    let r = vote-read in
+    let r = vote_read in
     let m = c.empty.ensures in
     let v = r.2 in
     rw r.1 (λ i. record { step = Next c.in-Next.c; message = record { kind = SignedVote; era = 0; message = m i; sig = 0; vote = v i } })

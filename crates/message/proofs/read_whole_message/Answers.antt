@@ -15,12 +15,12 @@ returns-in_default c =
 
 pub returns-then-c-s : goal.returns-then-c-s
 returns-then-c-s c =
-    let message-read : (x : MessageContent) × (read_message base c.args.s.now 0 ≡ value x c.in-Next.c) = step_next (read_message base c.args.s.now 0) _ (sym (ap (λ (r : ReadMessage). r.step) c.read_message-r.ensures) ∙ c.in-Next.is) in
-    let x = message-read in
+    let message_read : (x : MessageContent) × (read_message base c.args.s.now 0 ≡ value x c.in-Next.c) = step_next (read_message base c.args.s.now 0) _ (sym (ap (λ (r : ReadMessage). r.step) c.read_message-r.ensures) ∙ c.in-Next.is) in
+    let x = message_read in
     c.refused.ensures ∙ ap content_answer (sym (whole_left (read_message base c.args.s.now) _ _ _ x.1 c.if-c-s.true))
 
 pub returns : goal.returns
 returns c =
-    let message-read : (x : MessageContent) × (read_message base c.args.s.now 0 ≡ value x c.in-Next.c) = step_next (read_message base c.args.s.now 0) _ (sym (ap (λ (r : ReadMessage). r.step) c.read_message-r.ensures) ∙ c.in-Next.is) in
-    let x = message-read in
+    let message_read : (x : MessageContent) × (read_message base c.args.s.now 0 ≡ value x c.in-Next.c) = step_next (read_message base c.args.s.now 0) _ (sym (ap (λ (r : ReadMessage). r.step) c.read_message-r.ensures) ∙ c.in-Next.is) in
+    let x = message_read in
     c.read_message-r.ensures ∙ ap content_answer (x.1 ∙ sym (whole_read (read_message base c.args.s.now) _ _ _ x.1 c.if-c-s.false))

@@ -16,14 +16,14 @@ returns-in_default c = ap step_of (sym (counted_cut (read_node fixed _) followin
 pub returns-then-count : goal.returns-then-count
 unfolding read_map
 returns-then-count c =
-    let count-read : read_num 8 c.args.s.now c.args.at ≡ value c.in-Value.count c.in-Value.first = sym c.read_u64.ensures ∙ ap said64 c.in-Value.is in
-    ap step_of (sym (counted_over (read_node fixed _) following _ _ _ _ _ _ (count-read) (omega arith)))
+    let count_read : read_num 8 c.args.s.now c.args.at ≡ value c.in-Value.count c.in-Value.first = sym c.read_u64.ensures ∙ ap said64 c.in-Value.is in
+    ap step_of (sym (counted_over (read_node fixed _) following _ _ _ _ _ _ (count_read) (omega arith)))
 
 pub loop-i-init : goal.loop-i-init
 unfolding read_map
 loop-i-init c =
-    let count-read : read_num 8 c.args.s.now c.args.at ≡ value c.in-Value.count c.in-Value.first = sym c.read_u64.ensures ∙ ap said64 c.in-Value.is in
-    ([], counted_start (read_node fixed _) following _ _ _ _ _ _ (count-read) (omega arith))
+    let count_read : read_num 8 c.args.s.now c.args.at ≡ value c.in-Value.count c.in-Value.first = sym c.read_u64.ensures ∙ ap said64 c.in-Value.is in
+    ([], counted_start (read_node fixed _) following _ _ _ _ _ _ (count_read) (omega arith))
 
 pub returns-in_default-r : goal.returns-in_default-r
 returns-in_default-r c =

@@ -20,14 +20,14 @@ returns-in_default c = c.refused.ensures ∙ ap map_answer (sym (counted_cut (re
 pub returns-then-n : goal.returns-then-n
 unfolding read_map
 returns-then-n c =
-    let count-read : read_num 8 c.args.s.now c.args.at ≡ value c.in-Value.n c.in-Value.first = sym c.read_u64.ensures ∙ ap said64 c.in-Value.is in
-    c.refused-then-n.ensures ∙ ap map_answer (sym (counted_over (read_node fixed _) following _ _ _ _ _ _ (count-read) (omega arith)))
+    let count_read : read_num 8 c.args.s.now c.args.at ≡ value c.in-Value.n c.in-Value.first = sym c.read_u64.ensures ∙ ap said64 c.in-Value.is in
+    c.refused-then-n.ensures ∙ ap map_answer (sym (counted_over (read_node fixed _) following _ _ _ _ _ _ (count_read) (omega arith)))
 
 pub loop-i-init : goal.loop-i-init
 unfolding read_map padded
 loop-i-init c =
-    let count-read : read_num 8 c.args.s.now c.args.at ≡ value c.in-Value.n c.in-Value.first = sym c.read_u64.ensures ∙ ap said64 c.in-Value.is in
-    ([], refl, omega arith, omega arith, refl, counted_start (read_node fixed _) following _ _ _ _ _ _ (count-read) (omega arith))
+    let count_read : read_num 8 c.args.s.now c.args.at ≡ value c.in-Value.n c.in-Value.first = sym c.read_u64.ensures ∙ ap said64 c.in-Value.is in
+    ([], refl, omega arith, omega arith, refl, counted_start (read_node fixed _) following _ _ _ _ _ _ (count_read) (omega arith))
 
 pub returns-in_default-r : goal.returns-in_default-r
 returns-in_default-r c =

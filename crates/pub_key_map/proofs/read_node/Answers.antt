@@ -14,26 +14,26 @@ returns-in_default c = rw (read_refused _ _ _ _ (sym c.read_u32.ensures ∙ ap s
 pub returns-in_default-read_u64 : goal.returns-in_default-read_u64
 unfolding read_node
 returns-in_default-read_u64 c =
-    let id-read : read_num 4 c.args.s.now c.args.at ≡ value c.in-Value.id c.in-Value.c = sym c.read_u32.ensures ∙ ap said32 c.in-Value.is in
-    rw (id-read, read_refused _ _ _ _ (sym c.read_u64.ensures ∙ ap said64 c.in_default-read_u64.is))
+    let id_read : read_num 4 c.args.s.now c.args.at ≡ value c.in-Value.id c.in-Value.c = sym c.read_u32.ensures ∙ ap said32 c.in-Value.is in
+    rw (id_read, read_refused _ _ _ _ (sym c.read_u64.ensures ∙ ap said64 c.in_default-read_u64.is))
 
 pub returns-then-id-low : goal.returns-then-id-low
 unfolding read_node
 returns-then-id-low c =
-    let id-read : read_num 4 c.args.s.now c.args.at ≡ value c.in-Value.id c.in-Value.c = sym c.read_u32.ensures ∙ ap said32 c.in-Value.is in
-    let key-read : read_num 8 c.args.s.now c.in-Value.c ≡ value c.in-Value-read_u64.key c.in-Value-read_u64.d = sym c.read_u64.ensures ∙ ap said64 c.in-Value-read_u64.is in
-    rw (id-read, key-read, lt-ltb _ _ c.if-id-low.true)
+    let id_read : read_num 4 c.args.s.now c.args.at ≡ value c.in-Value.id c.in-Value.c = sym c.read_u32.ensures ∙ ap said32 c.in-Value.is in
+    let key_read : read_num 8 c.args.s.now c.in-Value.c ≡ value c.in-Value-read_u64.key c.in-Value-read_u64.d = sym c.read_u64.ensures ∙ ap said64 c.in-Value-read_u64.is in
+    rw (id_read, key_read, lt-ltb _ _ c.if-id-low.true)
 
 pub returns-then-key-eq0 : goal.returns-then-key-eq0
 unfolding read_node
 returns-then-key-eq0 c =
-    let id-read : read_num 4 c.args.s.now c.args.at ≡ value c.in-Value.id c.in-Value.c = sym c.read_u32.ensures ∙ ap said32 c.in-Value.is in
-    let key-read : read_num 8 c.args.s.now c.in-Value.c ≡ value c.in-Value-read_u64.key c.in-Value-read_u64.d = sym c.read_u64.ensures ∙ ap said64 c.in-Value-read_u64.is in
-    rw (id-read, key-read, le-ltb _ _ c.if-id-low.false, eq-eqb _ _ c.if-key-eq0.true)
+    let id_read : read_num 4 c.args.s.now c.args.at ≡ value c.in-Value.id c.in-Value.c = sym c.read_u32.ensures ∙ ap said32 c.in-Value.is in
+    let key_read : read_num 8 c.args.s.now c.in-Value.c ≡ value c.in-Value-read_u64.key c.in-Value-read_u64.d = sym c.read_u64.ensures ∙ ap said64 c.in-Value-read_u64.is in
+    rw (id_read, key_read, le-ltb _ _ c.if-id-low.false, eq-eqb _ _ c.if-key-eq0.true)
 
 pub returns : goal.returns
 unfolding read_node
 returns c =
-    let id-read : read_num 4 c.args.s.now c.args.at ≡ value c.in-Value.id c.in-Value.c = sym c.read_u32.ensures ∙ ap said32 c.in-Value.is in
-    let key-read : read_num 8 c.args.s.now c.in-Value.c ≡ value c.in-Value-read_u64.key c.in-Value-read_u64.d = sym c.read_u64.ensures ∙ ap said64 c.in-Value-read_u64.is in
-    rw (id-read, key-read, le-ltb _ _ c.if-id-low.false, ne_eqb _ _ c.if-key-eq0.false)
+    let id_read : read_num 4 c.args.s.now c.args.at ≡ value c.in-Value.id c.in-Value.c = sym c.read_u32.ensures ∙ ap said32 c.in-Value.is in
+    let key_read : read_num 8 c.args.s.now c.in-Value.c ≡ value c.in-Value-read_u64.key c.in-Value-read_u64.d = sym c.read_u64.ensures ∙ ap said64 c.in-Value-read_u64.is in
+    rw (id_read, key_read, le-ltb _ _ c.if-id-low.false, ne_eqb _ _ c.if-key-eq0.false)

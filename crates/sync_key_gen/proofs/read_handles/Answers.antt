@@ -21,14 +21,14 @@ returns-in_default c = c.refused_handles.ensures ∙ ap handles_answer (sym (cou
 pub returns-then-n : goal.returns-then-n
 unfolding read_handles
 returns-then-n c =
-    let count-read : read_num 8 c.args.s.now c.args.at ≡ value c.in-Value.n c.in-Value.first = sym c.read_u64.ensures ∙ ap said64 c.in-Value.is in
-    c.refused_handles-then-n.ensures ∙ ap handles_answer (sym (counted_over (plain (read_num 8 _)) stay _ _ _ _ _ _ (count-read) c.if-n.true))
+    let count_read : read_num 8 c.args.s.now c.args.at ≡ value c.in-Value.n c.in-Value.first = sym c.read_u64.ensures ∙ ap said64 c.in-Value.is in
+    c.refused_handles-then-n.ensures ∙ ap handles_answer (sym (counted_over (plain (read_num 8 _)) stay _ _ _ _ _ _ (count_read) c.if-n.true))
 
 pub loop-i-init : goal.loop-i-init
 unfolding read_handles padded
 loop-i-init c =
-    let count-read : read_num 8 c.args.s.now c.args.at ≡ value c.in-Value.n c.in-Value.first = sym c.read_u64.ensures ∙ ap said64 c.in-Value.is in
-    ([], refl, omega arith, omega arith, refl, counted_start (plain (read_num 8 _)) stay _ _ _ _ _ _ (count-read) c.if-n.false)
+    let count_read : read_num 8 c.args.s.now c.args.at ≡ value c.in-Value.n c.in-Value.first = sym c.read_u64.ensures ∙ ap said64 c.in-Value.is in
+    ([], refl, omega arith, omega arith, refl, counted_start (plain (read_num 8 _)) stay _ _ _ _ _ _ (count_read) c.if-n.false)
 
 pub returns-in_default-read_u64 : goal.returns-in_default-read_u64
 returns-in_default-read_u64 c =

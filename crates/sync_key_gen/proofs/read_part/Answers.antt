@@ -22,17 +22,17 @@ returns-in_default c = rw (read_refused _ _ _ _ (sym c.read_u64.ensures ∙ ap s
 pub returns-in_default-step : goal.returns-in_default-step
 unfolding read_part
 returns-in_default-step c =
-    let commit-read : read_num 8 c.args.s.now c.args.at ≡ value c.in-Value.commit c.in-Value.c = sym c.read_u64.ensures ∙ ap said64 c.in-Value.is in
+    let commit_read : read_num 8 c.args.s.now c.args.at ≡ value c.in-Value.commit c.in-Value.c = sym c.read_u64.ensures ∙ ap said64 c.in-Value.is in
     let x = number_refused (read_handles base c.args.s.now c.in-Value.c) _ (ap (λ (r : ReadHandles). r.step) c.read_handles-r.ensures) _ _ c.in_default-step.is c.number.ensures in
-    rw (commit-read, x) c.refused_part-in_default-step.ensures
+    rw (commit_read, x) c.refused_part-in_default-step.ensures
 
 pub returns : goal.returns
 unfolding read_part
 returns c =
-    let commit-read : read_num 8 c.args.s.now c.args.at ≡ value c.in-Value.commit c.in-Value.c = sym c.read_u64.ensures ∙ ap said64 c.in-Value.is in
-    let rows-read : (xs : List ℕ) × (read_handles base c.args.s.now c.in-Value.c ≡ value xs c.in-Next.d) × (c.read_handles-r.result.handles ≡ handles_held xs) =
+    let commit_read : read_num 8 c.args.s.now c.args.at ≡ value c.in-Value.commit c.in-Value.c = sym c.read_u64.ensures ∙ ap said64 c.in-Value.is in
+    let rows_read : (xs : List ℕ) × (read_handles base c.args.s.now c.in-Value.c ≡ value xs c.in-Next.d) × (c.read_handles-r.result.handles ≡ handles_held xs) =
     let e = c.read_handles-r.ensures in
     held_next (read_handles base _ _) _ (ap (λ (r : ReadHandles). r.step) e) handles_held (handles_held []) _ (ap (λ (r : ReadHandles). r.handles) e) _ c.in-Next.is in
-    let r = rows-read in
-    rw (commit-read, r.1)
+    let r = rows_read in
+    rw (commit_read, r.1)
     (ap {B = ReadPart} (λ (h : Handles). record { step = Next c.in-Next.d; part = record { commit = c.in-Value.commit; rows = h } }) r.2)

@@ -25,30 +25,30 @@ returns-in_default c =
 pub returns-in_default-read_u32 : goal.returns-in_default-read_u32
 unfolding read_signed_vote
 returns-in_default-read_u32 c =
-    let vote-read : (x : VoteOf) × (read_vote base c.args.s.now c.args.at ≡ value x c.in-Next.a) × (c.read_vote-r.result.vote ≡ vote_held x) =
+    let vote_read : (x : VoteOf) × (read_vote base c.args.s.now c.args.at ≡ value x c.in-Next.a) × (c.read_vote-r.result.vote ≡ vote_held x) =
     let e = c.read_vote-r.ensures in
     let x = step_next (read_vote base c.args.s.now c.args.at) _ (sym (ap (λ (r : ReadVote). r.step) e) ∙ c.in-Next.is) in
     (x.0, x.1, ap (λ (r : ReadVote). r.vote) e ∙ ap (held_of vote_held (vote_held no_vote)) x.1) in
-    rw ((vote-read).1, read_refused _ _ _ _ (sym c.read_u32.ensures ∙ ap said32 c.in_default-read_u32.is)) c.refused_signed-in_default-read_u32.ensures
+    rw ((vote_read).1, read_refused _ _ _ _ (sym c.read_u32.ensures ∙ ap said32 c.in_default-read_u32.is)) c.refused_signed-in_default-read_u32.ensures
 
 pub returns-in_default-read_u64 : goal.returns-in_default-read_u64
 unfolding read_signed_vote
 returns-in_default-read_u64 c =
-    let vote-read : (x : VoteOf) × (read_vote base c.args.s.now c.args.at ≡ value x c.in-Next.a) × (c.read_vote-r.result.vote ≡ vote_held x) =
+    let vote_read : (x : VoteOf) × (read_vote base c.args.s.now c.args.at ≡ value x c.in-Next.a) × (c.read_vote-r.result.vote ≡ vote_held x) =
     let e = c.read_vote-r.ensures in
     let x = step_next (read_vote base c.args.s.now c.args.at) _ (sym (ap (λ (r : ReadVote). r.step) e) ∙ c.in-Next.is) in
     (x.0, x.1, ap (λ (r : ReadVote). r.vote) e ∙ ap (held_of vote_held (vote_held no_vote)) x.1) in
-    let voter-read : read_num 4 c.args.s.now c.in-Next.a ≡ value c.in-Value.voter c.in-Value.b = sym c.read_u32.ensures ∙ ap said32 c.in-Value.is in
-    rw ((vote-read).1, voter-read, read_refused _ _ _ _ (sym c.read_u64.ensures ∙ ap said64 c.in_default-read_u64.is)) c.refused_signed-in_default-read_u64.ensures
+    let voter_read : read_num 4 c.args.s.now c.in-Next.a ≡ value c.in-Value.voter c.in-Value.b = sym c.read_u32.ensures ∙ ap said32 c.in-Value.is in
+    rw ((vote_read).1, voter_read, read_refused _ _ _ _ (sym c.read_u64.ensures ∙ ap said64 c.in_default-read_u64.is)) c.refused_signed-in_default-read_u64.ensures
 
 pub returns : goal.returns
 unfolding read_signed_vote
 returns c =
-    let vote-read : (x : VoteOf) × (read_vote base c.args.s.now c.args.at ≡ value x c.in-Next.a) × (c.read_vote-r.result.vote ≡ vote_held x) =
+    let vote_read : (x : VoteOf) × (read_vote base c.args.s.now c.args.at ≡ value x c.in-Next.a) × (c.read_vote-r.result.vote ≡ vote_held x) =
     let e = c.read_vote-r.ensures in
     let x = step_next (read_vote base c.args.s.now c.args.at) _ (sym (ap (λ (r : ReadVote). r.step) e) ∙ c.in-Next.is) in
     (x.0, x.1, ap (λ (r : ReadVote). r.vote) e ∙ ap (held_of vote_held (vote_held no_vote)) x.1) in
-    let voter-read : read_num 4 c.args.s.now c.in-Next.a ≡ value c.in-Value.voter c.in-Value.b = sym c.read_u32.ensures ∙ ap said32 c.in-Value.is in
-    let x = vote-read in
-    rw (x.1, voter-read, sym c.read_u64.ensures ∙ ap said64 c.in-Value-read_u64.is)
+    let voter_read : read_num 4 c.args.s.now c.in-Next.a ≡ value c.in-Value.voter c.in-Value.b = sym c.read_u32.ensures ∙ ap said32 c.in-Value.is in
+    let x = vote_read in
+    rw (x.1, voter_read, sym c.read_u64.ensures ∙ ap said64 c.in-Value-read_u64.is)
     (ap {B = ReadSignedVote} (λ (x : Vote). record { step = Next c.in-Value-read_u64.c; signed = record { vote = x; voter = c.in-Value.voter; sig = c.in-Value-read_u64.sig } }) x.2)

@@ -19,23 +19,23 @@ returns-in_default c = rw (sym c.node_index.ensures ∙ ap said_index c.in_defau
 pub returns-then-len : goal.returns-then-len
 unfolding handle_ack
 returns-then-len c =
-    let signer-at : node_index (nodes_of c.args.self.pub_keys) c.args.signer ≡ found c.in-At.j = sym c.node_index.ensures ∙ ap said_index c.in-At.is in
-    rw (signer-at, ne_eqb _ _ (λ e. c.if-len.true (c.len.ensures.0 ∙ e ∙ sym c.len-2.ensures.0)))
+    let signer_at : node_index (nodes_of c.args.self.pub_keys) c.args.signer ≡ found c.in-At.j = sym c.node_index.ensures ∙ ap said_index c.in-At.is in
+    rw (signer_at, ne_eqb _ _ (λ e. c.if-len.true (c.len.ensures.0 ∙ e ∙ sym c.len-2.ensures.0)))
 
 pub ack_at-requires : goal.ack_at-requires
 ack_at-requires c =
-    let signer-at : node_index (nodes_of c.args.self.pub_keys) c.args.signer ≡ found c.in-At.j = sym c.node_index.ensures ∙ ap said_index c.in-At.is in
-    (search rules, omega (arith, (index_found _ 0 _ _ (signer-at)).1, c.len-2.ensures.0, c.len-2.ensures.1))
+    let signer_at : node_index (nodes_of c.args.self.pub_keys) c.args.signer ≡ found c.in-At.j = sym c.node_index.ensures ∙ ap said_index c.in-At.is in
+    (search rules, omega (arith, (index_found _ 0 _ _ (signer_at)).1, c.len-2.ensures.0, c.len-2.ensures.1))
 
 pub returns-then-ack : goal.returns-then-ack
 unfolding handle_ack
 returns-then-ack c =
-    let signer-at : node_index (nodes_of c.args.self.pub_keys) c.args.signer ≡ found c.in-At.j = sym c.node_index.ensures ∙ ap said_index c.in-At.is in
-    c.ack_at.ensures ∙ sym (rw (signer-at, eq-eqb _ _ (sym c.len.ensures.0 ∙ c.if-len.false ∙ c.len-2.ensures.0)))
+    let signer_at : node_index (nodes_of c.args.self.pub_keys) c.args.signer ≡ found c.in-At.j = sym c.node_index.ensures ∙ ap said_index c.in-At.is in
+    c.ack_at.ensures ∙ sym (rw (signer_at, eq-eqb _ _ (sym c.len.ensures.0 ∙ c.if-len.false ∙ c.len-2.ensures.0)))
 
 pub returns : goal.returns
 unfolding handle_ack ack_of_index
 returns c =
-    let signer-at : node_index (nodes_of c.args.self.pub_keys) c.args.signer ≡ found c.in-At.j = sym c.node_index.ensures ∙ ap said_index c.in-At.is in
+    let signer_at : node_index (nodes_of c.args.self.pub_keys) c.args.signer ≡ found c.in-At.j = sym c.node_index.ensures ∙ ap said_index c.in-At.is in
     let l : length c.args.self.proposals ≡ base.nodes = c.well_formed.0.1.1.1.1.0.1.0.1 in
-    rw (signer-at, eq-eqb _ _ (sym c.len.ensures.0 ∙ c.if-len.false ∙ c.len-2.ensures.0), part_past c.args.self.proposals c.args.ack.proposer (omega arith))
+    rw (signer_at, eq-eqb _ _ (sym c.len.ensures.0 ∙ c.if-len.false ∙ c.len-2.ensures.0), part_past c.args.self.proposals c.args.ack.proposer (omega arith))

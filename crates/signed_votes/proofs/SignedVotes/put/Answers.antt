@@ -57,7 +57,7 @@ returns-then-p c =
 pub returns-after-loop-j : goal.returns-after-loop-j
 returns-after-loop-j c =
     let counted : c.len-n.result ≡ length (held c.args.self) = c.len-n.ensures.0 ∙ length-map (held c.args.self) signed_of in
-    let is-new : has_key voter_in c.args.x.voter (held c.args.self) ≡ false = sym c.place-p.ensures.2 ∙ c.if-p.false in
+    let is_new : has_key voter_in c.args.x.voter (held c.args.self) ≡ false = sym c.place-p.ensures.2 ∙ c.if-p.false in
     let a = c.args in
     let t = a.self in
     let p = c.place-p.result.at in
@@ -67,12 +67,12 @@ returns-after-loop-j c =
     let whole : take c.len-n.result t.votes ≡ held t = ap (λ (k : ℕ). take k t.votes) n ∙ take_live t.count t.votes in
     let moved = shift_done t.votes _ v.4 p c.loop-j.self.votes a.x (omega (arith, v.0, v.1)) (rw e at v.5) in
     ap (map signed_of) (rw whole at moved)
-    ∙ put_new signed_of voter_of a.x t.votes t.count p base.nodes (new_place signed_of voter_of a.x t.votes t.count p c.place-p.ensures.0 (is-new)) (omega (arith, n, v.2))
+    ∙ put_new signed_of voter_of a.x t.votes t.count p base.nodes (new_place signed_of voter_of a.x t.votes t.count p c.place-p.ensures.0 (is_new)) (omega (arith, n, v.2))
 
 pub returns-else-n-lt-LIMIT : goal.returns-else-n-lt-LIMIT
 returns-else-n-lt-LIMIT c =
     let counted : c.len-n.result ≡ length (held c.args.self) = c.len-n.ensures.0 ∙ length-map (held c.args.self) signed_of in
-    let is-new : has_key voter_in c.args.x.voter (held c.args.self) ≡ false = sym c.place-p.ensures.2 ∙ c.if-p.false in
+    let is_new : has_key voter_in c.args.x.voter (held c.args.self) ≡ false = sym c.place-p.ensures.2 ∙ c.if-p.false in
     let a = c.args in
     let p = c.place-p.result.at in
-    put_full signed_of voter_of a.x a.self.votes a.self.count p base.nodes (new_place signed_of voter_of a.x a.self.votes a.self.count p c.place-p.ensures.0 (is-new)) (omega (arith, counted, c.if-n-lt-LIMIT.false))
+    put_full signed_of voter_of a.x a.self.votes a.self.count p base.nodes (new_place signed_of voter_of a.x a.self.votes a.self.count p c.place-p.ensures.0 (is_new)) (omega (arith, counted, c.if-n-lt-LIMIT.false))
