@@ -83,7 +83,7 @@ module _ {A : Type 0} where
   plain_of P (refuse n) p = p
 
 module _ (s : List ℕ) where
-  plain_node : (low at : ℕ) → Plain (read_node fixed s low at)
+  pub plain_node : (low at : ℕ) → Plain (read_node fixed s low at)
   unfolding read_node
   plain_node low at =
       plain_bind (read_num 4 s at) _ (plain_num 4 s at) λ id c.
@@ -113,7 +113,7 @@ module _ (s : List ℕ) where
         (plain_choice (eqb tag 1) _ _ (plain_bind (read_schedule fixed s c) _ (plain_schedule c) λ x d. tt)
         (inl refl))
 
-    plain_vote : (at : ℕ) → Plain (read_vote z s at)
+    pub plain_vote : (at : ℕ) → Plain (read_vote z s at)
     unfolding read_vote
     plain_vote at =
         plain_bind (read_change fixed z s at) _ (plain_change at) λ change a.
@@ -129,15 +129,15 @@ module _ (s : List ℕ) where
         plain_bind (read_num 8 s b) _ (plain_num 8 s b) λ sig c.
         tt
 
-    plain_handles : (at : ℕ) → Plain (read_handles z s at)
+    pub plain_handles : (at : ℕ) → Plain (read_handles z s at)
     unfolding read_handles
     plain_handles at = plain_of (λ (xs : List ℕ). length xs ≤ z.rows) (read_handles z s at) (counted_answers (plain (read_num 8 s)) stay (λ u. plain_num 8 s) s z.rows tt at)
 
-    plain_part : (at : ℕ) → Plain (read_part z s at)
+    pub plain_part : (at : ℕ) → Plain (read_part z s at)
     unfolding read_part
     plain_part at = plain_bind (read_num 8 s at) _ (plain_num 8 s at) λ commit c. plain_bind (read_handles z s c) _ (plain_handles c) λ rows d. tt
 
-    plain_ack : (at : ℕ) → Plain (read_ack z s at)
+    pub plain_ack : (at : ℕ) → Plain (read_ack z s at)
     unfolding read_ack
     plain_ack at = plain_bind (read_num 8 s at) _ (plain_num 8 s at) λ proposer c. plain_bind (read_handles z s c) _ (plain_handles c) λ values d. tt
 
@@ -149,7 +149,7 @@ module _ (s : List ℕ) where
         (plain_choice (eqb tag 1) _ _ (plain_bind (read_ack z s c) _ (plain_ack c) λ a d. tt)
         (inl refl))
 
-    plain_signed_message : (at : ℕ) → Plain (read_signed_key_gen_msg z s at)
+    pub plain_signed_message : (at : ℕ) → Plain (read_signed_key_gen_msg z s at)
     unfolding read_signed_key_gen_msg
     plain_signed_message at =
         plain_bind (read_num 8 s at) _ (plain_num 8 s at) λ era a.
@@ -174,7 +174,7 @@ module _ (s : List ℕ) where
     votes_answers left at = counted_answers (plain (read_signed_vote z s)) stay (λ u. plain_signed_vote) s left tt at
 
     -- a contribution keeps to what is left of the batch's total
-    contrib_answers : (b : Budget) (at : ℕ) → Answers (λ x. items_in x ≤ b.left) (read_contrib z s b at)
+    pub contrib_answers : (b : Budget) (at : ℕ) → Answers (λ x. items_in x ≤ b.left) (read_contrib z s b at)
     unfolding read_contrib
     contrib_answers b at =
         answers_bind (λ n. Unit {0}) (λ x. items_in x ≤ b.left) (read_num 4 s at) _ (plain_num 4 s at) λ id c u.

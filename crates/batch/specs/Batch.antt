@@ -1,17 +1,14 @@
 -- 01: the report is epoch, era of the batch, change, map and parameters. And the join plan that a report gives.
-use Rattle.std.specs.Prelude.{ℕ, ◌+◌, List, [], Bool, true, false, cond, eqb}
+use Rattle.std.specs.Prelude.{ℕ, ◌+◌, List, Bool, true, false, cond, eqb}
 use Rattle.lists.specs.Lists.{Found, found, nothing}
 use Rattle.bincode.specs.Sizes.{Sizes}
 use Rattle.bincode.specs.Outcome.{Outcome, done, refused}
 use Rattle.pub_key_map.specs.declared.Node.{Node}
-use Rattle.pub_key_map.specs.PubKeyMap.{nodes_of, map_held}
+use Rattle.pub_key_map.specs.PubKeyMap.{nodes_of}
 use Rattle.params.specs.declared.Params.{Params}
-use Rattle.params.specs.Params.{no_params}
-use Rattle.change.specs.Change.{ChangeStateOf, none, in_progress, complete, state_of, state_held}
+use Rattle.change.specs.Change.{ChangeStateOf, none, in_progress, complete, state_of}
 use Rattle.join_plan.specs.JoinPlan.{PlanOf, row1, plan_written, plan_said}
 use Rattle.batch.specs.declared.Batch.{Batch}
-use Rattle.batch.specs.declared.Planned.{Planned}
-use Rattle.batch.specs.declared.Planned.TheVariants as planned
 
 pub record BatchOf : Type 0 where
   pub epoch : ℕ
@@ -22,10 +19,6 @@ pub record BatchOf : Type 0 where
 
 abbrev pub batch_of : Batch → BatchOf
 batch_of b = record { epoch = b.epoch; era = b.era; change = state_of b.change; keys = nodes_of b.pub_keys; params = b.params }
-
--- what stands where there is no report
-abbrev pub no_batch : Batch
-no_batch = record { epoch = 0; era = 0; change = state_held none; pub_keys = map_held []; params = no_params }
 
 -- something changed, so there is a plan
 abbrev pub changed : ChangeStateOf → Bool
@@ -55,8 +48,3 @@ unfoldable pub plan_answered : Sizes → List ℕ → BatchOf → ℕ → Outcom
 plan_answered z l b set =
     cond (row1 z l) (refused 1)
     (cond (changed b.change) (cond (no_next b) (refused 5) (found_bytes (plan_said z l (plan_of_batch b set)))) (done nothing))
-
-abbrev pub said_planned : Planned → Outcome (Found ℕ)
-said_planned (planned.Upto n) = done (found n)
-said_planned planned.NoPlan = done nothing
-said_planned (planned.Refused n) = refused n

@@ -1,13 +1,16 @@
 // batch.rs: what a batch call reports (01: the report), and the join plan that a report gives.
 #![tactic(auto)]
 
-ghost use Rattle.std.specs.Prelude.{◌≡◌, not};
+ghost use Rattle.std.specs.Prelude.{◌≡◌, ℕ, not};
+ghost use Rattle.lists.specs.Lists.{option_as_found};
 ghost use Rattle.bincode.specs.Sizes.{base};
+ghost use Rattle.bincode.specs.Answer.{outcome_as_said};
 ghost use Rattle.change.specs.Change.{state_of};
-ghost use Rattle.batch.specs.Batch.{batch_of, no_batch, changed, plan_left, plan_answered, said_planned};
+ghost use Rattle.batch.specs.Batch.{batch_of, changed, plan_left, plan_answered};
 
+use bincode::Refusal;
 use change::{ChangeState, Progress};
-use join_plan::{JoinPlan, Written};
+use join_plan::JoinPlan;
 use params::Params;
 use pub_key_map::PubKeyMap;
 
@@ -21,56 +24,32 @@ pub struct Batch {
     pub params: Params,
 }
 
-// How many bytes of a plan were written, that there is no plan, or a refusal.
-#[derive(Clone, Copy)]
-pub enum Planned {
-    Upto(usize),
-    NoPlan,
-    Refused(u8),
-}
-
 impl Batch {
-    // What stands where there is no report.
-    pub fn empty() -> Self
-        ensures { result ≡ no_batch }
-    {
-        Batch {
-            epoch: 0,
-            era: 0,
-            change: ChangeState::none(),
-            pub_keys: PubKeyMap::empty(),
-            params: Params::empty(),
-        }
-    }
-
-    // The plan of this report, with the key set that the host lends; none where nothing changed.
-    pub fn join_plan(self, buf: &mut [u8], pub_key_set: u64) -> Planned
-        ensures { (buf.new ≡ plan_left base buf.old (batch_of self) pub_key_set) × (said_planned result ≡ plan_answered base buf.old (batch_of self) pub_key_set) }
+    // The plan of this report, with the key set that the host lends: how many bytes of it were written; none where nothing changed.
+    pub fn join_plan(self, buf: &mut [u8], pub_key_set: u64) -> Result<Option<usize>, Refusal>
+        ensures { (buf.new ≡ plan_left base buf.old (batch_of self) pub_key_set)
+            × (outcome_as_said (option_as_found (λ (x : ℕ). x)) result ≡ plan_answered base buf.old (batch_of self) pub_key_set) }
     {
         if buf.len() < JoinPlan::BYTES {
-            return Planned::Refused(1);
+            return Err(Refusal::ShortBuffer);
         }
         let change = self.change;
         if is_none(change) {
-            return Planned::NoPlan;
+            return Ok(None);
         }
         let epoch = self.epoch;
-        if epoch == 18446744073709551615 {
-            return Planned::Refused(5);
+        if epoch == u64::MAX {
+            return Err(Refusal::LastEpoch);
         }
-        let pub_keys = self.pub_keys;
-        let params = self.params;
         let plan = JoinPlan {
             era: epoch + 1,
             change,
-            pub_keys,
+            pub_keys: self.pub_keys,
             pub_key_set,
-            params,
+            params: self.params,
         };
-        match join_plan::write_plan(buf, plan) {
-            Written::Upto(n) => Planned::Upto(n),
-            Written::Refused(k) => Planned::Refused(k),
-        }
+        let n = join_plan::write_plan(buf, plan)?;
+        Ok(Some(n))
     }
 }
 
@@ -78,10 +57,5 @@ impl Batch {
 fn is_none(change: ChangeState) -> bool
     ensures { result ≡ not (changed (state_of change)) }
 {
-    let progress = change.progress;
-    match progress {
-        Progress::None => true,
-        Progress::InProgress => false,
-        Progress::Complete => false,
-    }
+    matches!(change.progress, Progress::None)
 }

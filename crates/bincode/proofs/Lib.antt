@@ -1,9 +1,11 @@
 pub mod NumberLaws
 pub mod ReadLaws
+pub mod AnswerLaws
 pub mod ItemLaws
 pub mod RereadLaws
 pub mod StandLaws
 pub mod CodeLaws
 pub mod CauseLaws
 pub mod RunCauses
+pub mod RowLaws
 pub mod WriteLaws

@@ -1,16 +1,18 @@
 -- What an answer says of the answers that it was made of.
 -- Assumes nothing.
 use Prim.Native.Nat.{ℕ, ◌≤◌, ◌<◌}
-use mathlib.Core.Path.{◌≡◌, refl, sym, ap, ◌∙◌}
+use mathlib.Core.Path.{◌≡◌, refl, sym, ap}
 use mathlib.Core.List.{List}
 use mathlib.Core.Bool.{Bool, true, false, cond, ◌||◌}
 use native.Mathlib.Omega.{arith}
 use lib.ListN.{length}
 use borrow.Author.Tests.{lt-ltb, le-ltb}
-use Rattle.bincode.specs.Read.{Read, value, refuse, bind, number_of, map_read, whole}
-use Rattle.bincode.specs.Answer.{step_of, held_of, said_step}
-use Rattle.bincode.specs.declared.Step.{Step}
-use Rattle.bincode.specs.declared.Step.TheVariants.{Next, Refused}
+use Rattle.std.specs.declared.result.Result.{Result}
+use Rattle.std.specs.declared.result.Result.TheVariants.{Ok, Err}
+use Rattle.bincode.specs.Read.{Read, value, refuse, bind, map_read, whole}
+use Rattle.bincode.specs.Rows.{row}
+use Rattle.bincode.specs.Answer.{answer, step_of}
+use Rattle.bincode.specs.declared.Refusal.{Refusal}
 
 module _ {A : Type 0} (x : Read A) where
   -- not both a value and a refusal
@@ -34,39 +36,49 @@ module _ {A B : Type 0} where
   bind_value (value a d) f p = (a, d, refl, p)
   bind_value (refuse k) f p = absurd (clash (refuse k) p refl)
 
+-- not both accepted and refused
+module _ {A E : Type 0} where
+  pub cross : {a : A} {e : E} → ◌≡◌ {A = Result A E} (Ok a) (Err e) → ⊥
+  cross p = let z : ◌≡◌ {A = ℕ} 0 1 = cc in omega arith
+
+  pub crossed : {a : A} {e : E} → ◌≡◌ {A = Result A E} (Err e) (Ok a) → ⊥
+  crossed p = let z : ◌≡◌ {A = ℕ} 0 1 = cc in omega arith
+
 pub or_false : (a b : Bool) → (a || b) ≡ false → (a ≡ false) × (b ≡ false)
 or_false true b p = (p, cc)
 or_false false b p = (refl, p)
 
 -- what an answer seen through f says of the answer
 module _ {A B : Type 0} (f : A → B) where
-  pub map_value : (x : Read A) {b : B} {c : ℕ} → map_read f x ≡ value b c → (a : A) × (x ≡ value a c) × (f a ≡ b)
-  map_value (value a d) {b} {c} p = let e : d ≡ c = cc in (a, ap (λ (k : ℕ). value a k) e, cc)
-  map_value (refuse k) p = absurd (clash (refuse k) p refl)
-
   pub map_refused : (x : Read A) {n : ℕ} → map_read f x ≡ refuse n → x ≡ refuse n
   map_refused (value a d) p = absurd (clash (value (f a) d) refl p)
   map_refused (refuse k) {n} p = let e : k ≡ n = cc in ap refuse e
 
--- what a step tells of the answer that it came from
+-- what an answer that code gave tells of the reading that it came from
+module _ {A B : Type 0} (held : A → B) where
+  pub answer_ok : (x : Read A) (b : B) (c : ℕ) → answer held x ≡ Ok (b, c) → (a : A) × (x ≡ value a c) × (b ≡ held a)
+  answer_ok (value a d) b c p = let q : (held a, d) ≡ (b, c) = cc in (a, ap (λ (k : ℕ). value a k) (ap (λ (y : B × ℕ). y.1) q), sym (ap (λ (y : B × ℕ). y.0) q))
+  answer_ok (refuse n) b c p = absurd (crossed p)
+
+  pub answer_err : (x : Read A) (r : Refusal) → answer held x ≡ Err r → (n : ℕ) × (x ≡ refuse n) × (r ≡ row n)
+  answer_err (value a d) r p = absurd (cross p)
+  answer_err (refuse n) r p = (n, refl, cc)
+
+  -- a refusal is passed on as it is
+  module _ {C D : Type 0} (held' : C → D) where
+    pub err_passed : (x : Read A) (f : A → ℕ → Read C) (r : Refusal) → answer held x ≡ Err r → answer held' (bind x f) ≡ Err r
+    err_passed (value a d) f r p = absurd (cross p)
+    err_passed (refuse n) f r p = cc
+
+-- what a position behind a value that was passed over tells
 module _ {A : Type 0} where
-  pub step_next : (x : Read A) (c : ℕ) → step_of x ≡ Next c → (a : A) × (x ≡ value a c)
-  step_next (value a d) c p = (a, let e : d ≡ c = cc in ap (λ (k : ℕ). value a k) e)
-  step_next (refuse n) c p = let z : ◌≡◌ {A = ℕ} 0 1 = cc in absurd (let y : ⊥ = omega arith in y)
+  pub step_ok : (x : Read A) (c : ℕ) → step_of x ≡ Ok c → (a : A) × (x ≡ value a c)
+  step_ok (value a d) c p = (a, let e : d ≡ c = cc in ap (λ (k : ℕ). value a k) e)
+  step_ok (refuse n) c p = absurd (crossed p)
 
-  pub step_refused : (x : Read A) (n : ℕ) → step_of x ≡ Refused n → x ≡ refuse n
-  step_refused (value a d) n p = let z : ◌≡◌ {A = ℕ} 0 1 = cc in absurd (let y : ⊥ = omega arith in y)
-  step_refused (refuse m) n p = let e : m ≡ n = cc in ap refuse e
-
--- what a step, and the value beside it, tell of the reading that they came from
-module _ {A : Type 0} (x : Read A) (t : Step) (e : t ≡ step_of x) where
-  module _ {B : Type 0} (held : A → B) (empty b : B) (h : b ≡ held_of held empty x) where
-    pub held_next : (c : ℕ) → t ≡ Next c → (a : A) × (x ≡ value a c) × (b ≡ held a)
-    held_next c p = let u = step_next x c (sym e ∙ p) in (u.0, u.1, h ∙ ap (held_of held empty) u.1)
-
-  -- a refusal goes on with the number that the step has
-  pub number_refused : (n m : ℕ) → t ≡ Refused n → m ≡ number_of (said_step t) → x ≡ refuse m
-  number_refused n m p k = step_refused x n (sym e ∙ p) ∙ ap refuse (sym (k ∙ ap (λ (s : Step). number_of (said_step s)) p))
+  pub step_err : (x : Read A) (r : Refusal) → step_of x ≡ Err r → (n : ℕ) × (x ≡ refuse n) × (r ≡ row n)
+  step_err (value a d) r p = absurd (cross p)
+  step_err (refuse n) r p = (n, refl, cc)
 
 -- reading a whole input goes by the reading and one test
 module _ {A : Type 0} (rd : ℕ → Read A) (s : List ℕ) where

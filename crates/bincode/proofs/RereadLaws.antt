@@ -10,11 +10,12 @@ use lib.ListN.{length}
 use Rattle.bincode.specs.Read.{Read, value, refuse}
 use Rattle.bincode.specs.Numbers.{read_num, fixed}
 use Rattle.bincode.specs.Items.{items, counted, plain, stay, many, foldl}
-use Rattle.bincode.specs.Answer.{step_of, held_of}
-use Rattle.bincode.specs.declared.Step.{Step}
-use Rattle.bincode.specs.declared.Step.TheVariants.{Next, Refused}
+use Rattle.std.specs.declared.result.Result.{Result}
+use Rattle.std.specs.declared.result.Result.TheVariants.{Ok, Err}
+use Rattle.bincode.specs.Answer.{answer}
+use Rattle.bincode.specs.declared.Refusal.{Refusal}
 use Rattle.bincode.proofs.NumberLaws.{read_value}
-use Rattle.bincode.proofs.ReadLaws.{clash, same_next, same_value, held_next, step_refused, bind_value, cond_value}
+use Rattle.bincode.proofs.ReadLaws.{clash, same_next, same_value, answer_ok, answer_err, bind_value, cond_value}
 use Rattle.bincode.proofs.ItemLaws.{uncons, length_items}
 
 -- a counted run that was read is a count, and as many items behind it
@@ -83,17 +84,16 @@ module _ {S A B : Type 0} (rd : S → ℕ → Read A) (next : S → A → S) (f 
         let y : [] ≡ p.0 = cc in
         ap (foldl f b) y ∙ p.2
 
--- the same for items with no state between them, whose reader answers a step with what code holds of the item beside it
+-- the same for items with no state between them, by the answers that code gives
 module _ {A B : Type 0} (rd : ℕ → Read A) (f : B → A → B) (n at₀ : ℕ) (b₀ : B) where
   abbrev pub Handling : ℕ → ℕ → B → Type 0
   Handling i at b = Rereading (plain rd) stay f n tt at₀ b₀ i tt at b
 
-  module _ (i at : ℕ) (b : B) (w : Handling i at b) (h : i < n) (t : Step) (e : t ≡ step_of (rd at)) where
-    pub handle_more : {H : Type 0} (held : A → H) (view : H → A) → ((a : A) → view (held a) ≡ a) → (empty x : H) → x ≡ held_of held empty (rd at)
-        → (d : ℕ) → t ≡ Next d → (b' : B) → b' ≡ f b (view x) → Handling (i + 1) d b'
-    handle_more held view same empty x o d p b' g =
-        let u = held_next (rd at) t e held empty x o d p in
+  module _ (i at : ℕ) (b : B) (w : Handling i at b) (h : i < n) {H : Type 0} (held : A → H) (t : Result (H × ℕ) Refusal) (e : t ≡ answer held (rd at)) where
+    pub handle_more : (view : H → A) → ((a : A) → view (held a) ≡ a) → (x : H) (d : ℕ) → t ≡ Ok (x, d) → (b' : B) → b' ≡ f b (view x) → Handling (i + 1) d b'
+    handle_more view same x d p b' g =
+        let u = answer_ok held (rd at) x d (sym e ∙ p) in
         reread_more (plain rd) stay f n tt at₀ b₀ i tt at b w h u.0 d u.1 tt refl b' (g ∙ ap (f b) (ap view u.2 ∙ same u.0))
 
-    pub handle_refused : (k : ℕ) → t ≡ Refused k → (xs : List A) (c : ℕ) → many rd n at₀ ≡ value xs c → ⊥
-    handle_refused k p = reread_refused (plain rd) stay f n tt at₀ b₀ i tt at b w h k (step_refused (rd at) k (sym e ∙ p))
+    pub handle_refused : (r : Refusal) → t ≡ Err r → (xs : List A) (c : ℕ) → many rd n at₀ ≡ value xs c → ⊥
+    handle_refused r p = let u = answer_err held (rd at) r (sym e ∙ p) in reread_refused (plain rd) stay f n tt at₀ b₀ i tt at b w h u.0 u.1

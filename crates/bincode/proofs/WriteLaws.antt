@@ -5,10 +5,11 @@ use mathlib.Core.Path.{◌≡◌, refl, sym, ap, ◌∙◌}
 use mathlib.Core.List.{List, [], ◌∷◌, ◌++◌}
 use native.Mathlib.Omega.{arith}
 use native.Mathlib.Nat.{add-zero}
+use lib.Dec.{leb}
+use mathlib.Core.Bool.{true, false}
 use lib.ListN.{length, drop, set, length-append}
 use lib.Seq.{sets, length-sets}
 use borrow.Author.Tests.{le-leb, lt-leb}
-use Rattle.lists.proofs.ListLaws.{rest_none}
 use Rattle.bincode.specs.Numbers.{bytes_of}
 use Rattle.bincode.specs.Stands.{concat, concat_map}
 use Rattle.bincode.specs.Writing.{written, written_to}
@@ -33,13 +34,13 @@ module _ (l : List ℕ) (at : ℕ) (bs : List ℕ) where
 
 -- the same of a number of any width
 module _ (l : List ℕ) (at w x : ℕ) where
-  pub number_no_room : length l < at + w → (l ≡ written l at (bytes_of w x)) × (at ≡ written_to l at (bytes_of w x))
-  number_no_room h = no_room l at (bytes_of w x) (rw length_bytes_of h)
+  pub number_no_room : leb (at + w) (length l) ≡ false → (l ≡ written l at (bytes_of w x)) × (at ≡ written_to l at (bytes_of w x))
+  unfolding written written_to
+  number_no_room h = (rw (length_bytes_of w x, h), rw (length_bytes_of w x, h))
 
-  pub number_has_room : at + w ≤ length l → (sets l at (bytes_of w x) ≡ written l at (bytes_of w x)) × (at + w ≡ written_to l at (bytes_of w x))
-  number_has_room h =
-      let r = has_room l at (bytes_of w x) (rw length_bytes_of h) in
-      (r.0, rw (length_bytes_of w x) at r.1)
+  pub number_has_room : leb (at + w) (length l) ≡ true → (sets l at (bytes_of w x) ≡ written l at (bytes_of w x)) × (at + w ≡ written_to l at (bytes_of w x))
+  unfolding written written_to
+  number_has_room h = (rw (length_bytes_of w x, h), rw (length_bytes_of w x, h))
 
 -- fields written one after the other
 abbrev pub written_all : List ℕ → ℕ → List (List ℕ) → List ℕ
@@ -76,11 +77,6 @@ module _ {A : Type 0} (enc : A → List ℕ) (xs : List A) where
     pub content : sets buf c (concat_map enc (drop i xs)) ≡ target
     pub stop : c + length (concat_map enc (drop i xs)) ≡ end
 
-  -- before the first turn
-  pub put_start : (buf : List ℕ) (c : ℕ) → c + length (concat_map enc xs) ≤ length buf
-      → Putting (sets buf c (concat_map enc xs)) (c + length (concat_map enc xs)) 0 buf c
-  put_start buf c h = record { fits = h; content = refl; stop = refl }
-
   -- the count is written, the items are still to be
   pub put_counted : (l : List ℕ) (at n : ℕ) → n ≡ length xs → at + length (bytes_of 8 (length xs) ++ concat_map enc xs) ≤ length l
       → (written_to l at (bytes_of 8 n) + length (concat_map enc xs) ≤ length (written l at (bytes_of 8 n)))
@@ -110,11 +106,3 @@ module _ {A : Type 0} (enc : A → List ℕ) (xs : List A) where
         content = sym (sets_append (enc x) ys buf c) ∙ ap (sets buf c) (sym r) ∙ p.content;
         stop = omega arith;
       }
-
-  -- after the last turn
-  pub put_done : (target : List ℕ) (end i : ℕ) (buf : List ℕ) (c : ℕ) → length xs ≤ i → Putting target end i buf c → (buf ≡ target) × (c ≡ end)
-  put_done target end i buf c h p =
-      let r : concat_map enc (drop i xs) ≡ [] = ap (concat_map enc) (rest_none xs i h) in
-      let e = p.stop in
-      let a : length (concat_map enc (drop i xs)) ≡ 0 = ap length r in
-      (ap (sets buf c) (sym r) ∙ p.content, omega arith)

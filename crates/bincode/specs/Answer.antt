@@ -1,33 +1,31 @@
--- What the readers' enums say, as a `Read`: Value is a value with the next position, Refused is 01's number.
-use Rattle.std.specs.Prelude.{ℕ}
+-- What the functions' `Result`s say: of a reader as a `Read`, of another call as an `Outcome`, each refusal by 01's number.
+use Rattle.std.specs.Prelude.{ℕ, Ok, Err}
+use Rattle.std.specs.declared.result.Result.{Result}
 use Rattle.bincode.specs.Read.{Read, value, refuse}
-use Rattle.bincode.specs.declared.ReadU32.{ReadU32}
-use Rattle.bincode.specs.declared.ReadU32.TheVariants as v32
-use Rattle.bincode.specs.declared.ReadU64.{ReadU64}
-use Rattle.bincode.specs.declared.ReadU64.TheVariants as v64
-use Rattle.bincode.specs.declared.Step.{Step}
-use Rattle.bincode.specs.declared.Step.TheVariants as step
+use Rattle.bincode.specs.Outcome.{Outcome, done, refused}
+use Rattle.bincode.specs.Rows.{row_number, row}
+use Rattle.bincode.specs.declared.Refusal.{Refusal}
 
-abbrev pub said32 : ReadU32 → Read ℕ
-said32 (v32.Value x c) = value x c
-said32 (v32.Refused n) = refuse n
+-- a reader's answer, with the value seen through f: the value and the position behind it, or the refusal's number
+module _ {A B : Type 0} (f : A → B) where
+  abbrev pub answer_as_read : Result (A × ℕ) Refusal → Read B
+  answer_as_read (Ok (a, c)) = value (f a) c
+  answer_as_read (Err r) = refuse (row_number r)
 
-abbrev pub said64 : ReadU64 → Read ℕ
-said64 (v64.Value x c) = value x c
-said64 (v64.Refused n) = refuse n
+-- the answer that code gives, with the value as it is held
+module _ {A B : Type 0} (held : A → B) where
+  abbrev pub answer : Read A → Result (B × ℕ) Refusal
+  answer (value a c) = Ok (held a, c)
+  answer (refuse n) = Err (row n)
 
-abbrev pub said_step : Step → Read (Unit {0})
-said_step (step.Next c) = value tt c
-said_step (step.Refused n) = refuse n
-
--- an answer as a step; the value that it read stands beside the step
+-- the same for a value that is passed over: the position behind it
 module _ {A : Type 0} where
-  abbrev pub step_of : Read A → Step
-  step_of (value a c) = step.Next c
-  step_of (refuse n) = step.Refused n
+  abbrev pub step_of : Read A → Result ℕ Refusal
+  step_of (value a c) = Ok c
+  step_of (refuse n) = Err (row n)
 
--- the value that stands beside the step: as it is held, and the empty one where reading refuses
-module _ {A B : Type 0} (held : A → B) (empty : B) where
-  abbrev pub held_of : Read A → B
-  held_of (value a c) = held a
-  held_of (refuse n) = empty
+-- another call's answer, with the value seen through f
+module _ {A B : Type 0} (f : A → B) where
+  abbrev pub outcome_as_said : Result A Refusal → Outcome B
+  outcome_as_said (Ok a) = done (f a)
+  outcome_as_said (Err r) = refused (row_number r)

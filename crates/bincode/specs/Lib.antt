@@ -5,6 +5,7 @@ pub mod Stands
 pub mod Codes
 pub mod Causes
 pub mod Writing
-pub mod Answer
 pub mod Sizes
 pub mod Outcome
+pub mod Rows
+pub mod Answer

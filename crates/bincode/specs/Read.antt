@@ -11,12 +11,6 @@ module _ {A B : Type 0} where
   bind (value a c) f = f a c
   bind (refuse n) f = refuse n
 
--- the refusal's number, 0 where there is none
-module _ {A : Type 0} where
-  abbrev pub number_of : Read A → ℕ
-  number_of (value a c) = 0
-  number_of (refuse n) = n
-
 -- the same answer with the value seen through f
 module _ {A B : Type 0} (f : A → B) where
   abbrev pub map_read : Read A → Read B

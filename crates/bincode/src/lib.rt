@@ -1,42 +1,61 @@
 // Numbers of bincode's default encoding, and what every reader and writer above is made of.
 #![tactic(auto)]
 
-ghost use Rattle.std.specs.Prelude.{◌≡◌, ◌+◌, ◌≤◌, length, take, drop};
+ghost use Rattle.std.specs.Prelude.{◌≡◌, ℕ, ◌+◌, ◌≤◌, length, take, drop};
 ghost use Rattle.std.proofs.lemmas.List.Edits.{sets};
-ghost use Rattle.bincode.specs.Read.{number_of};
 ghost use Rattle.bincode.specs.Numbers.{le, bytes_of, read_num};
+ghost use Rattle.bincode.specs.Rows.{row_number};
 ghost use Rattle.bincode.specs.Writing.{has_room, written, written_to};
-ghost use Rattle.bincode.specs.Answer.{said32, said64, said_step};
+ghost use Rattle.bincode.specs.Answer.{answer_as_read};
 
-// A number with the next position, or a refusal.
-#[derive(Clone, Copy)]
-pub enum ReadU32 {
-    Value(u32, usize),
-    Refused(u8),
+use std::fmt;
+
+// 01, "When the engine says no": what each row of the table is called. A row that no call answers (6) has no name.
+#[derive(Clone, Copy, Debug, PartialEq, Eq)]
+pub enum Refusal {
+    ShortBuffer,
+    Malformed,
+    TooLarge,
+    IllFormedVerdicts,
+    LastEpoch,
+    EmptyMapWins,
+    EmptyMap,
+    AlreadyMember,
+    OtherChange,
+    LastVoteNumber,
+    StoreFull,
+    MapFull,
+    BadPeriod,
+    OtherEra,
 }
 
-#[derive(Clone, Copy)]
-pub enum ReadU64 {
-    Value(u64, usize),
-    Refused(u8),
-}
-
-// The next position, or a refusal: where the value holds an array, it stands beside this.
-#[derive(Clone, Copy)]
-pub enum Step {
-    Next(usize),
-    Refused(u8),
-}
-
-impl Step {
-    // The refusal's number, 0 where there is none.
+impl Refusal {
+    // The number of the row.
     pub fn number(self) -> u8
-        ensures { result ≡ number_of (said_step self) }
+        ensures { result ≡ row_number self }
     {
         match self {
-            Step::Next(_) => 0,
-            Step::Refused(n) => n,
+            Refusal::ShortBuffer => 1,
+            Refusal::Malformed => 2,
+            Refusal::TooLarge => 3,
+            Refusal::IllFormedVerdicts => 4,
+            Refusal::LastEpoch => 5,
+            Refusal::EmptyMapWins => 7,
+            Refusal::EmptyMap => 8,
+            Refusal::AlreadyMember => 9,
+            Refusal::OtherChange => 10,
+            Refusal::LastVoteNumber => 11,
+            Refusal::StoreFull => 12,
+            Refusal::MapFull => 13,
+            Refusal::BadPeriod => 14,
+            Refusal::OtherEra => 15,
         }
+    }
+}
+
+impl fmt::Display for Refusal {
+    fn fmt<W: fmt::Write>(&self, f: &mut fmt::Formatter<W>) -> fmt::Result {
+        write!(f, "{}", self.number())
     }
 }
 
@@ -44,19 +63,7 @@ impl Step {
 pub fn room(len: usize, at: usize, n: usize) -> bool
     ensures { result ≡ has_room len at n }
 {
-    if len < at {
-        return false;
-    }
-    if len - at < n {
-        return false;
-    }
-    true
-}
-
-fn wide(b: u8) -> u64
-    ensures { result ≡ b }
-{
-    b as u64
+    at <= len && n <= len - at
 }
 
 // The w bytes at a position as a number, from the most significant one down.
@@ -65,36 +72,29 @@ fn num_at(s: &[u8], at: usize, w: usize) -> u64
     ensures { result ≡ le (take w (drop at s.now)) }
 {
     let mut v: u64 = 0;
-    let mut k = w;
-    while 0 < k {
-        k -= 1;
-        v = v * 256 + wide(s[at + k]);
+    for k in (0..w).rev() {
+        v = v * 256 + u64::from(s[at + k]);
     }
     v
 }
 
-pub fn read_u32(s: &[u8], at: usize) -> ReadU32
-    ensures { said32 result ≡ read_num 4 s.now at }
+// A number with the position behind it.
+pub fn read_u32(s: &[u8], at: usize) -> Result<(u32, usize), Refusal>
+    ensures { answer_as_read (λ (x : ℕ). x) result ≡ read_num 4 s.now at }
 {
-    if s.len() < at {
-        return ReadU32::Refused(2);
+    if !room(s.len(), at, 4) {
+        return Err(Refusal::Malformed);
     }
-    if s.len() - at < 4 {
-        return ReadU32::Refused(2);
-    }
-    ReadU32::Value(num_at(s, at, 4) as u32, at + 4)
+    Ok((num_at(s, at, 4) as u32, at + 4))
 }
 
-pub fn read_u64(s: &[u8], at: usize) -> ReadU64
-    ensures { said64 result ≡ read_num 8 s.now at }
+pub fn read_u64(s: &[u8], at: usize) -> Result<(u64, usize), Refusal>
+    ensures { answer_as_read (λ (x : ℕ). x) result ≡ read_num 8 s.now at }
 {
-    if s.len() < at {
-        return ReadU64::Refused(2);
+    if !room(s.len(), at, 8) {
+        return Err(Refusal::Malformed);
     }
-    if s.len() - at < 8 {
-        return ReadU64::Refused(2);
-    }
-    ReadU64::Value(num_at(s, at, 8), at + 8)
+    Ok((num_at(s, at, 8), at + 8))
 }
 
 // The w least significant bytes of x, at a position.
@@ -103,11 +103,9 @@ fn put(buf: &mut [u8], at: usize, w: usize, x: u64)
     ensures { buf.new ≡ sets buf.old at (bytes_of w x) }
 {
     let mut v = x;
-    let mut k = 0;
-    while k < w {
+    for k in 0..w {
         buf[at + k] = (v % 256) as u8;
         v = v / 256;
-        k += 1;
     }
 }
 
@@ -115,23 +113,17 @@ fn put(buf: &mut [u8], at: usize, w: usize, x: u64)
 pub fn write_u32(buf: &mut [u8], at: usize, x: u32) -> usize
     ensures { (buf.new ≡ written buf.old at (bytes_of 4 x)) × (result ≡ written_to buf.old at (bytes_of 4 x)) }
 {
-    if buf.len() < at {
+    if !room(buf.len(), at, 4) {
         return at;
     }
-    if buf.len() - at < 4 {
-        return at;
-    }
-    put(buf, at, 4, x as u64);
+    put(buf, at, 4, u64::from(x));
     at + 4
 }
 
 pub fn write_u64(buf: &mut [u8], at: usize, x: u64) -> usize
     ensures { (buf.new ≡ written buf.old at (bytes_of 8 x)) × (result ≡ written_to buf.old at (bytes_of 8 x)) }
 {
-    if buf.len() < at {
-        return at;
-    }
-    if buf.len() - at < 8 {
+    if !room(buf.len(), at, 8) {
         return at;
     }
     put(buf, at, 8, x);

@@ -9,19 +9,27 @@ use lib.Dec.{eqb}
 use lib.ListN.{length, take, drop, get_or, set, replicate, length-map, get_or-map}
 use lib.Seq.{take_all, get_or-set_same, get_or-set_other}
 use borrow.Author.Tests.{eq-eqb, ne_eqb, eqb-true, eqb-false}
+use Rattle.lists.specs.Lists.{Found, map_found, lookup}
 use Rattle.lists.proofs.ListLaws.{false_true, rest_none}
+use Rattle.lists.proofs.SortedLaws.{map_lookup}
 use Rattle.change.specs.Change.{ChangeOf, same_change}
 use Rattle.change.proofs.ChangeLaws.{change_true, change_refl}
-use Rattle.votes.specs.Votes.{SignedVoteOf, no_signed}
-use Rattle.signed_votes.specs.SignedVotes.{voter_of}
+use Rattle.votes.specs.declared.SignedVote.{SignedVote}
+use Rattle.votes.specs.Votes.{SignedVoteOf, signed_of, no_signed}
+use Rattle.signed_votes.specs.declared.SignedVotes.{SignedVotes}
+use Rattle.signed_votes.specs.SignedVotes.{held, votes_of, voter_of, voter_in as voter_in_vote}
 use Rattle.winner.specs.Winner.{support}
 use Rattle.winner.specs.Board.{Cast, Row, choices, least_with, supporters, lowest, first_choices, row_for, is_before, placed, in_order, board}
 use Rattle.winner.proofs.SupportTurns.{count_yes, count_no}
 use Rattle.winner.proofs.LowestTurns.{none_supports, lowest_yes, lowest_no, lowest_own, choice_first, choice_again, choices_end}
 use Rattle.winner.proofs.BoardOrder.{in_order_map}
 use Rattle.board.specs.declared.BoardRow.{BoardRow}
-use Rattle.board.specs.Board.{count_in, voter_in, cast_of, kept_row, worked_out}
+use Rattle.board.specs.Board.{count_in, voter_in, cast_of, kept_row, worked_out, change_by}
 use Rattle.board.specs.Turns.{rank}
+
+-- the change that a look-up among the structs finds
+pub held_change : (t : SignedVotes) (k : ℕ) (x : Found SignedVote) → lookup voter_in_vote (held t) k ≡ x → change_by (lookup voter_of (votes_of t) k) ≡ change_by (map_found signed_of x)
+held_change t k x e = ap change_by (sym (map_lookup signed_of voter_of (held t) k) ∙ ap (map_found signed_of) e)
 
 -- the vote at a place begins a row unless an earlier one is for its change; then the row counts all votes for it
 abbrev pub choice_at : List SignedVoteOf → ℕ → ChangeOf

@@ -1,9 +1,8 @@
 -- 02, CR 3: the board as a node keeps it: the lowest voter and the count of each row, in order. The change of a row is the one that its voter's vote is for.
-use Rattle.std.specs.Prelude.{ℕ, ◌≡◌, List, [], map, Bool, true, false, take, replicate}
+use Rattle.std.specs.Prelude.{ℕ, List, [], map, take, replicate}
 use Rattle.lists.specs.Lists.{Found, found, nothing, map_found, at_place, lookup}
 use Rattle.bincode.specs.Sizes.{base}
-use Rattle.change.specs.declared.Change.{Change}
-use Rattle.change.specs.Change.{ChangeOf, node_change, change_of, change_held, same_change}
+use Rattle.change.specs.Change.{ChangeOf, node_change, change_of, same_change}
 use Rattle.votes.specs.Votes.{SignedVoteOf}
 use Rattle.signed_votes.specs.SignedVotes.{voter_of}
 use Rattle.winner.specs.Board.{Cast, Row, board}
@@ -69,16 +68,5 @@ unfoldable pub standing_at : ℕ → List BoardRow → List SignedVoteOf → Fou
 standing_at n rs vs = map_found (standing_of vs) (at_place n rs)
 
 -- as code says it
-abbrev pub said_found : Bool → Change → ℕ → Found StandingOf
-said_found true c n = found (record { change = change_of c; count = n })
-said_found false c n = nothing
-
-abbrev pub said_standing : Standing → Found StandingOf
-said_standing r = said_found r.found r.change r.count
-
--- past the last place stand the empty change and the count 0
-abbrev pub no_standing : Standing
-no_standing = record { found = false; change = change_held no_change; count = 0 }
-
-abbrev pub NoStandingEmpty : Standing → Type 0
-NoStandingEmpty r = r.found ≡ false → r ≡ no_standing
+abbrev pub said_standing : Standing → StandingOf
+said_standing r = record { change = change_of r.change; count = r.count }

@@ -1,13 +1,13 @@
 // 02, CR 3: the board of changes with their voters' counts, largest count first, equal counts by lowest voter. The Rust has none.
 #![tactic(auto)]
 
-ghost use Rattle.std.specs.Prelude.{◌≡◌, true, false, ◌≤◌, ◌<◌, length};
-ghost use Rattle.lists.specs.Lists.{lookup};
+ghost use Rattle.std.specs.Prelude.{◌≡◌, ◌≤◌, ◌<◌, length};
+ghost use Rattle.lists.specs.Lists.{lookup, option_as_found};
 ghost use Rattle.bincode.specs.Sizes.{base};
 ghost use Rattle.change.specs.Change.{change_of};
 ghost use Rattle.signed_votes.specs.SignedVotes.{votes_of, voter_of};
 ghost use Rattle.winner.specs.Board.{is_before, placed};
-ghost use Rattle.board.specs.Board.{rows_of, count_in, voter_in, no_board, worked_out, change_by, standing_at, said_standing, NoStandingEmpty};
+ghost use Rattle.board.specs.Board.{rows_of, count_in, voter_in, no_board, worked_out, change_by, standing_at, said_standing};
 ghost use Rattle.board.specs.Turns.{rank};
 
 use change::{Change, ChangeKind};
@@ -28,10 +28,9 @@ pub struct Board {
     pub rows: [BoardRow; Board::LIMIT],
 }
 
-// A row that is handed out, or that there is none at the place; then the change beside it is the empty map, and the count 0.
+// A row as it is handed out: a change, and how many voters are for it.
 #[derive(Clone, Copy)]
 pub struct Standing {
-    pub found: bool,
     pub change: Change,
     pub count: usize,
 }
@@ -40,29 +39,17 @@ pub struct Standing {
 fn is_before(r: BoardRow, q: BoardRow) -> bool
     ensures { result ≡ is_before count_in voter_in r q }
 {
-    if q.count < r.count {
-        return true;
-    }
-    if q.count == r.count {
-        return r.voter < q.voter;
-    }
-    false
+    q.count < r.count || (q.count == r.count && r.voter < q.voter)
 }
 
 // The change that a voter's vote is for; without a vote the empty map.
 fn change_of(votes: SignedVotes, voter: u32) -> Change
     ensures { change_of result ≡ change_by (lookup voter_of (votes_of votes) voter) }
 {
-    let n = votes.len();
-    let mut i: usize = 0;
-    while i < n {
-        let x = votes.votes[i];
+    for x in &votes.votes[..votes.len()] {
         if x.voter == voter {
-            let vote = x.vote;
-            let change = vote.change;
-            return change;
+            return x.vote.change;
         }
-        i += 1;
     }
     Change {
         kind: ChangeKind::NodeChange,
@@ -86,8 +73,7 @@ impl Board {
     pub fn len(self) -> usize
         ensures { (result ≡ length (rows_of self)) × (result ≤ base.nodes) }
     {
-        let n = self.count;
-        if n < Board::LIMIT { n } else { Board::LIMIT }
+        self.count.min(Board::LIMIT)
     }
 
     // How many rows stand before the first that a row stands before.
@@ -95,15 +81,12 @@ impl Board {
         ensures { (result ≡ rank row (rows_of self)) × (result ≤ length (rows_of self)) }
     {
         let n = self.len();
-        let mut i: usize = 0;
-        while i < n {
-            let q = self.rows[i];
-            if is_before(row, q) {
+        for i in 0..n {
+            if is_before(row, self.rows[i]) {
                 return i;
             }
-            i += 1;
         }
-        i
+        n
     }
 
     // A row put before the first that it stands before; those from there on move up.
@@ -113,12 +96,9 @@ impl Board {
     {
         let n = self.len();
         let at = self.place_of(row);
-        let mut j = n;
-        while at < j {
-            let k = j - 1;
-            let q = self.rows[k];
-            self.rows[j] = q;
-            j = k;
+        for j in (at..n).rev() {
+            let q = self.rows[j];
+            self.rows[j + 1] = q;
         }
         self.rows[at] = row;
         self.count = n + 1;
@@ -132,16 +112,14 @@ impl Board {
         let n = votes.len();
         let mut board = Board::empty();
         let mut seen = [false; Board::LIMIT];
-        let mut i: usize = 0;
-        while i < n {
+        for i in 0..n {
             if !seen[i] {
                 let x = votes.votes[i];
                 let vote = x.vote;
                 let change = vote.change;
                 let mut low = x.voter;
                 let mut count: usize = 1;
-                let mut j = i + 1;
-                while j < n {
+                for j in i + 1..n {
                     let y = votes.votes[j];
                     if y.is_for(change) {
                         seen[j] = true;
@@ -150,34 +128,24 @@ impl Board {
                             low = y.voter;
                         }
                     }
-                    j += 1;
                 }
                 board = board.put(BoardRow { voter: low, count });
             }
-            i += 1;
         }
         board
     }
 
     // The row at a place, 0 first, with the change that its voter's vote is for.
-    pub fn standing(self, votes: SignedVotes, place: usize) -> Standing
-        ensures { (said_standing result ≡ standing_at place (rows_of self) (votes_of votes)) × NoStandingEmpty result }
+    pub fn standing(self, votes: SignedVotes, place: usize) -> Option<Standing>
+        ensures { option_as_found said_standing result ≡ standing_at place (rows_of self) (votes_of votes) }
     {
-        if place < self.len() {
-            let row = self.rows[place];
-            return Standing {
-                found: true,
-                change: change_of(votes, row.voter),
-                count: row.count,
-            };
+        if self.len() <= place {
+            return None;
         }
-        Standing {
-            found: false,
-            change: Change {
-                kind: ChangeKind::NodeChange,
-                map: PubKeyMap::empty(),
-            },
-            count: 0,
-        }
+        let row = self.rows[place];
+        Some(Standing {
+            change: change_of(votes, row.voter),
+            count: row.count,
+        })
     }
 }

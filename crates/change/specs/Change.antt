@@ -4,7 +4,6 @@ use Rattle.bincode.specs.Read.{Read, value, refuse, bind}
 use Rattle.bincode.specs.Numbers.{Edition}
 use Rattle.bincode.specs.Sizes.{Sizes}
 use Rattle.bincode.specs.Stands.{concat}
-use Rattle.bincode.specs.Answer.{step_of, held_of}
 use Rattle.pub_key_map.specs.declared.Node.{Node}
 use Rattle.pub_key_map.specs.declared.PubKeyMap.{PubKeyMap}
 use Rattle.pub_key_map.specs.PubKeyMap.{nodes_of, map_held, same_nodes, read_map, map_bytes, MapOk}
@@ -16,8 +15,6 @@ use Rattle.change.specs.declared.Change.{Change}
 use Rattle.change.specs.declared.Progress.{Progress}
 use Rattle.change.specs.declared.Progress.TheVariants.{None, InProgress, Complete}
 use Rattle.change.specs.declared.ChangeState.{ChangeState}
-use Rattle.change.specs.declared.ReadChange.{ReadChange}
-use Rattle.change.specs.declared.ReadState.{ReadState}
 
 -- a change is another map of nodes, or a schedule
 pub data ChangeOf : Type 0 where
@@ -96,10 +93,3 @@ abbrev pub StateOk : Sizes → ChangeStateOf → Type 0
 StateOk z none = Unit {0}
 StateOk z (in_progress c) = ChangeOk z c
 StateOk z (complete c) = ChangeOk z c
-
--- the answers as code gives them
-abbrev pub change_answer : Read ChangeOf → ReadChange
-change_answer x = record { step = step_of x; change = held_of change_held (change_held (node_change [])) x }
-
-abbrev pub state_answer : Read ChangeStateOf → ReadState
-state_answer x = record { step = step_of x; state = held_of state_held (state_held none) x }

@@ -2,18 +2,18 @@
 #![tactic(auto)]
 
 ghost use Rattle.std.specs.Prelude.{◌≡◌, [], ◌∷◌, ◌+◌, ◌*◌, ◌≤◌, length};
-ghost use Rattle.bincode.specs.Read.{refuse, whole};
+ghost use Rattle.bincode.specs.Read.{whole};
 ghost use Rattle.bincode.specs.Numbers.{fixed, bytes_of};
-ghost use Rattle.bincode.specs.Answer.{step_of};
+ghost use Rattle.bincode.specs.Answer.{answer, step_of};
 ghost use Rattle.bincode.specs.Stands.{concat};
 ghost use Rattle.bincode.specs.Sizes.{base};
 ghost use Rattle.bincode.specs.Writing.{written, written_to};
 ghost use Rattle.pub_key_map.specs.PubKeyMap.{nodes_of};
 ghost use Rattle.change.specs.Change.{node_change, encryption_schedule, none, in_progress, complete, change_of, change_held, state_of};
-ghost use Rattle.change.specs.Change.{state_held, same_change, read_change, change_answer, change_bytes, read_state, state_answer, state_bytes};
+ghost use Rattle.change.specs.Change.{state_held, same_change, read_change, change_bytes, read_state, state_bytes};
 
-use bincode::{ReadU32, Step};
-use honey_badger::{EncryptionSchedule, ReadSchedule};
+use bincode::Refusal;
+use honey_badger::EncryptionSchedule;
 use pub_key_map::PubKeyMap;
 
 #[derive(Clone, Copy)]
@@ -52,19 +52,10 @@ impl Change {
     pub fn same(self, other: Change) -> bool
         ensures { result ≡ same_change (change_of self) (change_of other) }
     {
-        let a = self.kind;
-        let b = other.kind;
-        let map = self.map;
-        let other_map = other.map;
-        match a {
-            ChangeKind::NodeChange => match b {
-                ChangeKind::NodeChange => map.same(other_map),
-                ChangeKind::EncryptionSchedule(_) => false,
-            },
-            ChangeKind::EncryptionSchedule(x) => match b {
-                ChangeKind::NodeChange => false,
-                ChangeKind::EncryptionSchedule(y) => x.same(y),
-            },
+        match (self.kind, other.kind) {
+            (ChangeKind::NodeChange, ChangeKind::NodeChange) => self.map.same(other.map),
+            (ChangeKind::EncryptionSchedule(x), ChangeKind::EncryptionSchedule(y)) => x == y,
+            _ => false,
         }
     }
 }
@@ -115,158 +106,82 @@ impl ChangeState {
     }
 }
 
-#[derive(Clone, Copy)]
-pub struct ReadChange {
-    pub step: Step,
-    pub change: Change,
-}
-
-#[derive(Clone, Copy)]
-pub struct ReadState {
-    pub step: Step,
-    pub state: ChangeState,
-}
-
-fn refused_change(n: u8) -> ReadChange
-    ensures { result ≡ change_answer (refuse n) }
+pub fn read_change(s: &[u8], at: usize) -> Result<(Change, usize), Refusal>
+    ensures { result ≡ answer change_held (read_change fixed base s.now at) }
 {
-    ReadChange {
-        step: Step::Refused(n),
-        change: Change {
-            kind: ChangeKind::NodeChange,
-            map: PubKeyMap::empty(),
-        },
-    }
-}
-
-pub fn read_change(s: &[u8], at: usize) -> ReadChange
-    ensures { result ≡ change_answer (read_change fixed base s.now at) }
-{
-    let ReadU32::Value(tag, c) = bincode::read_u32(s, at) else {
-        return refused_change(2);
+    let Ok((tag, c)) = bincode::read_u32(s, at) else {
+        return Err(Refusal::Malformed);
     };
     if tag == 0 {
-        let r = pub_key_map::read_map(s, c);
-        let step = r.step;
-        let map = r.map;
-        let Step::Next(d) = step else {
-            return refused_change(step.number());
+        let (map, d) = pub_key_map::read_map(s, c)?;
+        let change = Change {
+            kind: ChangeKind::NodeChange,
+            map,
         };
-        return ReadChange {
-            step: Step::Next(d),
-            change: Change {
-                kind: ChangeKind::NodeChange,
-                map,
-            },
-        };
+        return Ok((change, d));
     }
     if tag == 1 {
-        let x = honey_badger::read_schedule(s, c);
-        let ReadSchedule::Value(schedule, d) = x else {
-            return refused_change(x.number());
-        };
-        return ReadChange {
-            step: Step::Next(d),
-            change: Change {
-                kind: ChangeKind::EncryptionSchedule(schedule),
-                map: PubKeyMap::empty(),
-            },
-        };
+        let (x, d) = honey_badger::read_schedule(s, c)?;
+        return Ok((Change::schedule(x), d));
     }
-    refused_change(2)
+    Err(Refusal::Malformed)
 }
 
 // A change that is passed over: nothing of it is kept.
-pub fn check_change(s: &[u8], at: usize) -> Step
+pub fn check_change(s: &[u8], at: usize) -> Result<usize, Refusal>
     ensures { result ≡ step_of (read_change fixed base s.now at) }
 {
-    let ReadU32::Value(tag, c) = bincode::read_u32(s, at) else {
-        return Step::Refused(2);
+    let Ok((tag, c)) = bincode::read_u32(s, at) else {
+        return Err(Refusal::Malformed);
     };
     if tag == 0 {
         return pub_key_map::check_map(s, c);
     }
     if tag == 1 {
-        let x = honey_badger::read_schedule(s, c);
-        let ReadSchedule::Value(_, d) = x else {
-            return Step::Refused(x.number());
-        };
-        return Step::Next(d);
+        let (_, d) = honey_badger::read_schedule(s, c)?;
+        return Ok(d);
     }
-    Step::Refused(2)
+    Err(Refusal::Malformed)
 }
 
 // A change that is a whole input: nothing may be left over.
-pub fn read_whole_change(s: &[u8]) -> ReadChange
-    ensures { result ≡ change_answer (whole (read_change fixed base s.now) s.now) }
+pub fn read_whole_change(s: &[u8]) -> Result<(Change, usize), Refusal>
+    ensures { result ≡ answer change_held (whole (read_change fixed base s.now) s.now) }
 {
-    let r = read_change(s, 0);
-    let step = r.step;
-    let Step::Next(c) = step else {
-        return r;
-    };
+    let (change, c) = read_change(s, 0)?;
     if c < s.len() {
-        return refused_change(2);
+        return Err(Refusal::Malformed);
     }
-    r
+    Ok((change, c))
 }
 
-fn refused_state(n: u8) -> ReadState
-    ensures { result ≡ state_answer (refuse n) }
+pub fn read_state(s: &[u8], at: usize) -> Result<(ChangeState, usize), Refusal>
+    ensures { result ≡ answer state_held (read_state fixed base s.now at) }
 {
-    ReadState {
-        step: Step::Refused(n),
-        state: ChangeState::none(),
-    }
-}
-
-pub fn read_state(s: &[u8], at: usize) -> ReadState
-    ensures { result ≡ state_answer (read_state fixed base s.now at) }
-{
-    let ReadU32::Value(tag, c) = bincode::read_u32(s, at) else {
-        return refused_state(2);
+    let Ok((tag, c)) = bincode::read_u32(s, at) else {
+        return Err(Refusal::Malformed);
     };
     if tag == 0 {
-        return ReadState {
-            step: Step::Next(c),
-            state: ChangeState::none(),
-        };
+        return Ok((ChangeState::none(), c));
     }
     if 2 < tag {
-        return refused_state(2);
+        return Err(Refusal::Malformed);
     }
-    let r = read_change(s, c);
-    let step = r.step;
-    let change = r.change;
-    let Step::Next(d) = step else {
-        return refused_state(step.number());
+    let (change, d) = read_change(s, c)?;
+    let progress = if tag == 1 {
+        Progress::InProgress
+    } else {
+        Progress::Complete
     };
-    if tag == 1 {
-        return ReadState {
-            step: Step::Next(d),
-            state: ChangeState {
-                progress: Progress::InProgress,
-                change,
-            },
-        };
-    }
-    ReadState {
-        step: Step::Next(d),
-        state: ChangeState {
-            progress: Progress::Complete,
-            change,
-        },
-    }
+    Ok((ChangeState { progress, change }, d))
 }
 
 // How many bytes a change takes.
 pub fn change_size(c: Change) -> usize
     ensures { (result ≡ length (change_bytes fixed (change_of c))) × (result ≤ 12 + 12 * base.nodes) }
 {
-    let kind = c.kind;
-    let map = c.map;
-    match kind {
-        ChangeKind::NodeChange => 4 + pub_key_map::map_size(map),
+    match c.kind {
+        ChangeKind::NodeChange => 4 + pub_key_map::map_size(c.map),
         ChangeKind::EncryptionSchedule(x) => 4 + honey_badger::schedule_size(x),
     }
 }
@@ -275,10 +190,8 @@ pub fn change_size(c: Change) -> usize
 pub fn write_change(buf: &mut [u8], at: usize, c: Change) -> usize
     ensures { (buf.new ≡ written buf.old at (change_bytes fixed (change_of c))) × (result ≡ written_to buf.old at (change_bytes fixed (change_of c))) }
 {
-    let kind = c.kind;
-    let map = c.map;
-    match kind {
-        ChangeKind::NodeChange => write_node_change(buf, at, map),
+    match c.kind {
+        ChangeKind::NodeChange => write_node_change(buf, at, c.map),
         ChangeKind::EncryptionSchedule(x) => write_schedule_change(buf, at, x),
     }
 }
@@ -310,12 +223,9 @@ fn write_schedule_change(buf: &mut [u8], at: usize, x: EncryptionSchedule) -> us
 pub fn state_size(x: ChangeState) -> usize
     ensures { (result ≡ length (state_bytes fixed (state_of x))) × (result ≤ 16 + 12 * base.nodes) }
 {
-    let progress = x.progress;
-    let change = x.change;
-    match progress {
+    match x.progress {
         Progress::None => 4,
-        Progress::InProgress => 4 + change_size(change),
-        Progress::Complete => 4 + change_size(change),
+        Progress::InProgress | Progress::Complete => 4 + change_size(x.change),
     }
 }
 
@@ -336,11 +246,9 @@ fn write_tagged(buf: &mut [u8], at: usize, tag: u32, change: Change) -> usize
 pub fn write_state(buf: &mut [u8], at: usize, x: ChangeState) -> usize
     ensures { (buf.new ≡ written buf.old at (state_bytes fixed (state_of x))) × (result ≡ written_to buf.old at (state_bytes fixed (state_of x))) }
 {
-    let progress = x.progress;
-    let change = x.change;
-    match progress {
+    match x.progress {
         Progress::None => bincode::write_u32(buf, at, 0),
-        Progress::InProgress => write_tagged(buf, at, 1, change),
-        Progress::Complete => write_tagged(buf, at, 2, change),
+        Progress::InProgress => write_tagged(buf, at, 1, x.change),
+        Progress::Complete => write_tagged(buf, at, 2, x.change),
     }
 }

@@ -9,7 +9,9 @@ use lib.Dec.{ltb, eqb}
 use lib.ListN.{length, get_or, set}
 use lib.Seq.{set-get_or}
 use borrow.Author.Tests.{ltb-false, eq-eqb, ne_eqb}
-use Rattle.lists.specs.Lists.{Found, found, nothing, lookup, insert}
+use Rattle.std.specs.declared.option.Option.{Option}
+use Rattle.std.specs.declared.option.Option.TheVariants.{Some, None}
+use Rattle.lists.specs.Lists.{Found, found, nothing, option_as_found, lookup, insert}
 use Rattle.lists.proofs.ListLaws.{cond_yes, cond_no}
 use Rattle.bincode.specs.Sizes.{base}
 use Rattle.fault_log.specs.declared.FaultKind.TheVariants.{InvalidKeyGenMessageSignature, InvalidKeyGenMessageEra, UnexpectedKeyGenPart, UnexpectedKeyGenAck, SyncKeyGenPart, SyncKeyGenAck}
@@ -18,6 +20,7 @@ use Rattle.fault_log.specs.declared.AckFault.TheVariants.{ValueCount, MissingPar
 use Rattle.pub_key_map.specs.declared.Node.{Node}
 use Rattle.pub_key_map.specs.PubKeyMap.{nodes_of}
 use Rattle.network_info.specs.NetworkInfo.{node_index}
+use Rattle.network_info.proofs.IndexLaws.{index_found}
 use Rattle.key_gen.specs.declared.Proposal.{Proposal}
 use Rattle.key_gen.specs.declared.KeyGen.{KeyGen}
 use Rattle.key_gen.specs.KeyGen as gen
@@ -112,6 +115,14 @@ module _ (running : Bool) (cs : List Node) (h : MessageHead) where
       go : (b : Bool) → index_in (cond b (found cs) nothing) h.id ≡ found j → (node_index cs h.id ≡ found j) × (asked_of (cond b (found cs) nothing) h ≡ asked_at cs h (found j))
       go true q = (q, rw q)
       go false q = absurd (let y : ◌≡◌ {A = ℕ} 0 1 = cc in let w : ⊥ = omega arith in w)
+
+  -- by the index that code finds
+  module _ (o : Option ℕ) (e : option_as_found (λ (x : ℕ). x) o ≡ index_in (cond running (found cs) nothing) h.id) where
+    pub asked_absent : o ≡ None → asked_of (cond running (found cs) nothing) h ≡ unexpected_of h
+    asked_absent p = asked_none (sym e ∙ ap (option_as_found (λ (x : ℕ). x)) p)
+
+    pub asked_present : (j : ℕ) → o ≡ Some j → (asked_of (cond running (found cs) nothing) h ≡ asked_at cs h (found j)) × (j < length cs)
+    asked_present j p = let u = asked_index j (sym e ∙ ap (option_as_found (λ (x : ℕ). x)) p) in (u.1, omega (arith, (index_found cs 0 j h.id u.0).1))
 
 -- where it does not
 by_none : (g : KeyGenOf) (m : SignedKeyGenMsgOf) (v era : ℕ) (ns : List Node) (x : KeyGenMessageOf) → message_done era ns nothing (with_message m x) v ≡ done_as nothing (asks_done g v (asked era ns nothing (head_with m x))).told

@@ -4,27 +4,27 @@ use Prim.Native.Nat.{ℕ, ◌+◌, ◌≤◌}
 use mathlib.Core.Path.{◌≡◌, refl, sym, ap, ◌∙◌}
 use mathlib.Core.List.{List, [], ◌∷◌, map}
 use mathlib.Core.Bool.{true, false}
+use Rattle.std.specs.declared.result.Result.TheVariants.{Ok, Err}
 use native.Mathlib.Omega.{arith}
 use lib.ListN.{length, take, drop, set, length-take, length-set, length-map}
 use lib.Seq.{take_all, take_at}
 use Rattle.lists.specs.Lists.{Found, map_found, lookup}
-use Rattle.lists.proofs.ListLaws.{cond_yes, cond_no, rest_none, false_true}
+use Rattle.lists.proofs.ListLaws.{cond_yes, cond_no, rest_none}
 use Rattle.bincode.specs.Items.{foldl}
 use Rattle.bincode.specs.Sizes.{base}
-use Rattle.bincode.specs.Answer.{step_of, held_of}
-use Rattle.bincode.specs.declared.Step.{Step}
-use Rattle.bincode.specs.declared.Step.TheVariants.{Next, Refused}
-use Rattle.bincode.proofs.ReadLaws.{held_next, step_refused}
+use Rattle.bincode.specs.Answer.{answer}
+use Rattle.bincode.specs.declared.Refusal.{Refusal}
+use Rattle.bincode.proofs.ReadLaws.{answer_ok, answer_err}
 use Rattle.filled.specs.Filled.{filled}
 use Rattle.votes.specs.declared.SignedVote.{SignedVote}
-use Rattle.votes.specs.Votes.{SignedVoteOf, signed_of, signed_held, no_signed, read_signed_vote}
+use Rattle.votes.specs.Votes.{SignedVoteOf, signed_of, signed_held, read_signed_vote}
 use Rattle.votes.proofs.VoteLaws.{held_vote}
 use Rattle.signed_votes.specs.declared.SignedVotes.{SignedVotes}
 use Rattle.signed_votes.specs.SignedVotes.{held, votes_of}
 use Rattle.vote_counter.specs.VoteCounter.{CounterOf, at_or_below, add_committed}
 use Rattle.commit.specs.declared.tally.Entry.{Entry}
 use Rattle.commit.specs.Tally.{entry_voter, entry_num, kept_entry, outdated, any_fresh}
-use Rattle.commit.specs.Put.{put_read, put_in, was_read}
+use Rattle.commit.specs.Put.{put_read, put_in}
 
 -- the test on a number, by what the search finds
 pub outdated_by : (es : List Entry) (voter num : ℕ) (x : Found Entry) → lookup entry_voter es voter ≡ x → outdated es voter num ≡ at_or_below num (map_found entry_num x)
@@ -76,18 +76,17 @@ set_bound es n p limit x h = rw (length-take n (set es p x), length-set es p x) 
 
 -- a vote of this batch that is read, and one that cannot be read
 module _ (s : List ℕ) (c : CounterOf) (e : Entry) (f : e.fresh ≡ true) where
-  pub put_unread : (t : Step) → t ≡ step_of (read_signed_vote base s e.place) → was_read t ≡ false → c ≡ put_in base s c e
+  pub put_unread : (r : Refusal) → answer signed_held (read_signed_vote base s e.place) ≡ Err r → c ≡ put_in base s c e
   unfolding put_in
-  put_unread (Next d) r w = absurd (false_true (sym w))
-  put_unread (Refused k) r w =
-      sym (cond_yes (put_read base c (read_signed_vote base s e.place)) c f ∙ ap (put_read base c) (step_refused (read_signed_vote base s e.place) k (sym r)))
+  put_unread r q =
+      let u = answer_err signed_held (read_signed_vote base s e.place) r q in
+      sym (cond_yes (put_read base c (read_signed_vote base s e.place)) c f ∙ ap (put_read base c) u.1)
 
-  pub put_read_lem : (t : Step) → t ≡ step_of (read_signed_vote base s e.place) → was_read t ≡ true → (x : SignedVote)
-      → x ≡ held_of signed_held (signed_held no_signed) (read_signed_vote base s e.place) → (add_committed base c (signed_of x)).counter ≡ put_in base s c e
+  pub put_read_lem : (x : SignedVote) (d : ℕ) → answer signed_held (read_signed_vote base s e.place) ≡ Ok (x, d)
+      → (add_committed base c (signed_of x)).counter ≡ put_in base s c e
   unfolding put_in
-  put_read_lem (Next d) r w x o =
-      let u = held_next (read_signed_vote base s e.place) (Next d) r signed_held (signed_held no_signed) x o d refl in
+  put_read_lem x d q =
+      let u = answer_ok signed_held (read_signed_vote base s e.place) x d q in
       sym
       (cond_yes (put_read base c (read_signed_vote base s e.place)) c f ∙ ap (put_read base c) u.1
       ∙ ap (λ (v : SignedVoteOf). (add_committed base c v).counter) (sym (ap signed_of u.2 ∙ held_vote u.0)))
-  put_read_lem (Refused k) r w x o = absurd (false_true w)

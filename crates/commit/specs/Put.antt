@@ -1,9 +1,7 @@
 -- The votes of a batch that stayed, put into the counter behind the batch's loop.
-use Rattle.std.specs.Prelude.{ℕ, List, Bool, true, false, cond}
+use Rattle.std.specs.Prelude.{ℕ, List, cond}
 use Rattle.bincode.specs.Read.{Read, value, refuse}
 use Rattle.bincode.specs.Sizes.{Sizes}
-use Rattle.bincode.specs.declared.Step.{Step}
-use Rattle.bincode.specs.declared.Step.TheVariants as step
 use Rattle.votes.specs.Votes.{SignedVoteOf, read_signed_vote}
 use Rattle.vote_counter.specs.VoteCounter.{CounterOf, add_committed}
 use Rattle.commit.specs.declared.tally.Entry.{Entry}
@@ -16,8 +14,3 @@ put_read z c (refuse n) = c
 -- the vote of an entry of this batch; another entry changes nothing
 unfoldable pub put_in : Sizes → List ℕ → CounterOf → Entry → CounterOf
 put_in z s c e = cond e.fresh (put_read z c (read_signed_vote z s e.place)) c
-
--- a value was read
-abbrev pub was_read : Step → Bool
-was_read (step.Next c) = true
-was_read (step.Refused n) = false

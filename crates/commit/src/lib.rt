@@ -34,10 +34,7 @@ pub struct Committed {
 fn behind_count(s: &[u8], place: usize) -> usize
     ensures { place ≤ length s.now → result ≡ place + 8 }
 {
-    if place <= s.len() {
-        return place + 8;
-    }
-    place
+    if place <= s.len() { place + 8 } else { place }
 }
 
 // Step 2: the contributions that an index notes, ids ascending: of each its votes, then its messages, though messages are encoded first. Key generation and votes are
@@ -66,8 +63,7 @@ pub fn commit_batch(
     let mut judged: usize = 0;
     let mut faults: usize = 0;
     let mut due: usize = 0;
-    let mut i: usize = 0;
-    while i < n {
+    for i in 0..n {
         let e = index.contribs[i];
         if 0 < e.vote_count {
             let at = behind_count(s, e.votes);
@@ -109,7 +105,6 @@ pub fn commit_batch(
             faults = m.faults;
             due = m.due;
         }
-        i += 1;
     }
     Committed {
         tally: done,

@@ -1,10 +1,9 @@
 // dynamic_honey_badger.rs, `process_output`: the key messages of one contribution, read again and handled. Key generation is changed in the function
 // with the loop, since an element of a large struct is changed in place only there; faults and due items go into lent lists of numbers.
 ghost use Rattle.std.specs.Prelude.{◌≡◌, List, cond, ℕ, ◌≤◌, ◌<◌, drop};
-ghost use Rattle.lists.specs.Lists.{found, nothing};
+ghost use Rattle.lists.specs.Lists.{found, nothing, option_as_found};
 ghost use Rattle.bincode.specs.Sizes.{base};
 ghost use Rattle.pub_key_map.specs.PubKeyMap.{nodes_of};
-ghost use Rattle.network_info.specs.NetworkInfo.{said_index};
 ghost use Rattle.key_gen.specs.KeyGen as gen;
 ghost use Rattle.key_gen.specs.declared.Proposal.{Proposal};
 ghost use Rattle.key_gen_state.specs.KeyGenState as running;
@@ -14,13 +13,11 @@ ghost use Rattle.commit.specs.Handled.{DueBy, faults_told, MessagesCommitted};
 ghost use Rattle.commit.specs.Faults.{FaultsBy};
 
 use crate::faults::put_fault;
-use bincode::Step;
 use due::DueList;
 use fault_log::{AckFault, FaultKind, PartFault};
 use key_gen::{KeyGen, KeyOutcome, Proposal};
 use key_gen_message::MessageHead;
 use key_gen_state::KeyGenState;
-use network_info::NodeIndex;
 use pub_key_map::PubKeyMap;
 
 // What a committed key message comes to: nothing to tell, an ack that is due for a proposer, or whose fault it is.
@@ -66,20 +63,14 @@ pub struct MessagesDone {
 fn verdict_at(verdicts: &[u8], i: usize) -> u8
     ensures { result ≡ first_verdict (drop i verdicts.now) }
 {
-    if i < verdicts.len() {
-        return verdicts[i];
-    }
-    0
+    if i < verdicts.len() { verdicts[i] } else { 0 }
 }
 
 // The place behind a verdict, the same past the last.
 fn verdict_used(verdicts: &[u8], i: usize) -> usize
     ensures { drop result verdicts.now ≡ other_verdicts (drop i verdicts.now) }
 {
-    if i < verdicts.len() {
-        return i + 1;
-    }
-    i
+    if i < verdicts.len() { i + 1 } else { i }
 }
 
 // What a message's end adds to the faults.
@@ -95,8 +86,7 @@ fn tell_fault(
     ensures { FaultsBy (faults_told base proposer signer (said_told told)) n result ids.old ids.new kinds.old kinds.new × (result ≤ base.faults) }
 {
     match told {
-        MessageTold::Quiet => n,
-        MessageTold::Owed(_) => n,
+        MessageTold::Quiet | MessageTold::Owed(_) => n,
         MessageTold::BlamedProposer(k) => put_fault(ids, kinds, n, proposer, k),
         MessageTold::BlamedSigner(k) => put_fault(ids, kinds, n, signer, k),
     }
@@ -108,7 +98,6 @@ fn tell_due(indices: &mut [u64], n: usize, told: MessageTold) -> usize
     ensures { DueBy (said_told told) n result indices.old indices.new × (result ≤ base.due) }
 {
     match told {
-        MessageTold::Quiet => n,
         MessageTold::Owed(i) => {
             if n < DueList::LIMIT {
                 filled::put_u64(indices, n, i as u64);
@@ -116,8 +105,7 @@ fn tell_due(indices: &mut [u64], n: usize, told: MessageTold) -> usize
             }
             n
         }
-        MessageTold::BlamedProposer(_) => n,
-        MessageTold::BlamedSigner(_) => n,
+        MessageTold::Quiet | MessageTold::BlamedProposer(_) | MessageTold::BlamedSigner(_) => n,
     }
 }
 
@@ -132,13 +120,14 @@ fn tells(told: MessageTold) -> Ask
 }
 
 // A node's index in the candidate map, where key generation runs.
-fn candidate_index(running: bool, candidate: PubKeyMap, id: u32) -> NodeIndex
-    ensures { said_index result ≡ index_in (cond running (found (nodes_of candidate)) nothing) id }
+fn candidate_index(running: bool, candidate: PubKeyMap, id: u32) -> Option<usize>
+    ensures { option_as_found (λ (x : ℕ). x) result ≡ index_in (cond running (found (nodes_of candidate)) nothing) id }
 {
     if running {
-        return network_info::node_index(candidate, id);
+        network_info::node_index(candidate, id)
+    } else {
+        None
     }
-    NodeIndex::Nothing
 }
 
 // What a message asks whose era and signature are right. Without key generation, and of a node that leaves, nothing is expected: that is the signer's fault, before
@@ -146,7 +135,7 @@ fn candidate_index(running: bool, candidate: PubKeyMap, id: u32) -> NodeIndex
 fn asks_signed(h: MessageHead, running: bool, candidate: PubKeyMap) -> Ask
     ensures { (said_ask result.place result.what ≡ asked_of (cond running (found (nodes_of candidate)) nothing) h) × (result.place < base.nodes) × Within result.what }
 {
-    let NodeIndex::At(j) = candidate_index(running, candidate, h.id) else {
+    let Some(j) = candidate_index(running, candidate, h.id) else {
         if h.part {
             return tells(MessageTold::BlamedSigner(FaultKind::UnexpectedKeyGenPart));
         }
@@ -226,9 +215,11 @@ fn part_step(p: Proposal, x: usize, commit: u64, observes: bool, verdict: u8) ->
             told: MessageTold::BlamedSigner(FaultKind::SyncKeyGenPart(PartFault::MultipleParts)),
         };
     }
-    let mut q = Proposal::empty();
-    q.recorded = true;
-    q.commit = commit;
+    let q = Proposal {
+        recorded: true,
+        commit,
+        ..Proposal::empty()
+    };
     if observes {
         return Stepped {
             proposal: q,
@@ -334,14 +325,10 @@ pub(crate) fn commit_messages(
     let mut d = due;
     let mut j = judged;
     let mut c = at;
-    let mut i: u64 = 0;
-    while i < n {
-        let r = key_gen_message::read_head(s, c);
-        let step = r.step;
-        let Step::Next(next) = step else {
+    for _ in 0..n {
+        let Ok((h, next)) = key_gen_message::read_head(s, c) else {
             return done(state, kg, j, f, d);
         };
-        let h = r.head;
         let a = asks(h, era, map, running, candidate);
         let x = a.place;
         let what = a.what;
@@ -354,7 +341,6 @@ pub(crate) fn commit_messages(
         f = tell_fault(ids, kinds, f, told, proposer, h.id);
         d = tell_due(indices, d, told);
         c = next;
-        i += 1;
     }
     done(state, kg, j, f, d)
 }

@@ -56,8 +56,7 @@ impl Tally {
     {
         let n = votes.len();
         let mut t = Tally::empty();
-        let mut i: usize = 0;
-        while i < n {
+        for i in 0..n {
             let x = votes.votes[i];
             let vote = x.vote;
             t.entries[i] = Entry {
@@ -66,7 +65,6 @@ impl Tally {
                 num: vote.num,
                 place: 0,
             };
-            i += 1;
         }
         t.count = n;
         t
@@ -85,13 +83,11 @@ impl Tally {
         ensures { result ≡ outdated (entries_of self) voter num }
     {
         let n = self.len();
-        let mut i: usize = 0;
-        while i < n {
+        for i in 0..n {
             let e = self.entries[i];
             if e.voter == voter {
                 return num <= e.num;
             }
-            i += 1;
         }
         false
     }
@@ -101,13 +97,11 @@ impl Tally {
         ensures { result ≡ any_fresh (entries_of self) }
     {
         let n = self.len();
-        let mut i: usize = 0;
-        while i < n {
+        for i in 0..n {
             let e = self.entries[i];
             if e.fresh {
                 return true;
             }
-            i += 1;
         }
         false
     }
@@ -117,15 +111,13 @@ impl Tally {
         ensures { (result ≡ below entry_voter voter (entries_of self)) × (result ≤ length (entries_of self)) }
     {
         let n = self.len();
-        let mut i: usize = 0;
-        while i < n {
+        for i in 0..n {
             let e = self.entries[i];
             if voter <= e.voter {
                 return i;
             }
-            i += 1;
         }
-        i
+        n
     }
 
     // The entries from a place on moved up by one, with an entry at that place; there is room.
@@ -133,13 +125,7 @@ impl Tally {
         requires { (at ≤ n) × (n < base.nodes) }
         ensures { (entries_of result ≡ take at (take n self.entries) ++ (x ∷ drop at (take n self.entries))) × (length (entries_of result) ≤ base.nodes) }
     {
-        let mut j = n;
-        while at < j {
-            let k = j - 1;
-            let e = self.entries[k];
-            self.entries[j] = e;
-            j = k;
-        }
+        self.entries.copy_within(at..n, at + 1);
         self.entries[at] = x;
         self.count = n + 1;
         self
@@ -151,12 +137,9 @@ impl Tally {
     {
         let n = self.len();
         let at = self.place(x.voter);
-        if at < n {
-            let e = self.entries[at];
-            if e.voter == x.voter {
-                self.entries[at] = x;
-                return self;
-            }
+        if at < n && self.entries[at].voter == x.voter {
+            self.entries[at] = x;
+            return self;
         }
         if n < Tally::LIMIT {
             return self.shift(at, n, x);

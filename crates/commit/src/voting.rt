@@ -7,11 +7,10 @@ ghost use Rattle.vote_counter.specs.VoteCounter.{counter_of};
 ghost use Rattle.commit.specs.Tally.{entries_of, outdated};
 ghost use Rattle.commit.specs.Faults.{FaultsBy, blamed_in};
 ghost use Rattle.commit.specs.Votes.{good_head, VoteCommitted, VotesCommitted};
-ghost use Rattle.commit.specs.Put.{put_in, was_read};
+ghost use Rattle.commit.specs.Put.{put_in};
 
 use crate::faults::put_fault;
 use crate::tally::{Entry, Tally};
-use bincode::Step;
 use fault_log::FaultKind;
 use pub_key_map::PubKeyMap;
 use vote_counter::VoteCounter;
@@ -25,13 +24,11 @@ pub struct VotesDone {
 }
 
 // Whether a vote is of the era and signed under its voter's key of the map.
+#[tactic(auto, unfolding(crate::specs::Votes::good_head))]
 fn is_good(h: VoteHead, era: u64, map: PubKeyMap) -> bool
     ensures { result ≡ good_head era (nodes_of map) h }
 {
-    if h.era == era {
-        return dynamic_honey_badger::is_key(map, h.voter, h.sig);
-    }
-    false
+    h.era == era && dynamic_honey_badger::is_key(map, h.voter, h.sig)
 }
 
 // Step 3: a vote of a proposer's contribution that is not old, by its head; its bytes stand at a place.
@@ -96,37 +93,23 @@ pub(crate) fn commit_votes(
     let mut t = tally;
     let mut f = faults;
     let mut c = at;
-    let mut i: u64 = 0;
-    while i < n {
-        let r = votes::read_vote_head(s, c);
-        let step = r.step;
-        let Step::Next(next) = step else {
+    for _ in 0..n {
+        let Ok((h, next)) = votes::read_vote_head(s, c) else {
             return VotesDone {
                 tally: t,
                 faults: f,
             };
         };
-        let h = r.head;
         if !t.is_obsolete(h.voter, h.num) {
             let d = commit_vote(h, c, proposer, era, map, t, ids, kinds, f);
             t = d.tally;
             f = d.faults;
         }
         c = next;
-        i += 1;
     }
     VotesDone {
         tally: t,
         faults: f,
-    }
-}
-
-fn is_read(step: Step) -> bool
-    ensures { result ≡ was_read step }
-{
-    match step {
-        Step::Next(_) => true,
-        Step::Refused(_) => false,
     }
 }
 
@@ -140,20 +123,15 @@ pub fn put_votes(counter: VoteCounter, s: &[u8], t: Tally) -> VoteCounter
     let map = counter.pub_keys;
     let mut votes = counter.committed;
     let mut taken = false;
-    let mut i: usize = 0;
-    while i < n {
+    for i in 0..n {
         let e = t.entries[i];
         if e.fresh {
-            let r = votes::read_signed_vote(s, e.place);
-            let step = r.step;
-            if is_read(step) {
-                let x = r.signed;
+            if let Ok((x, _)) = votes::read_signed_vote(s, e.place) {
                 let a = vote_counter::commit_vote(votes, era, map, x);
                 votes = a.votes;
                 taken = taken | a.taken;
             }
         }
-        i += 1;
     }
     counter.with_committed(votes, taken)
 }

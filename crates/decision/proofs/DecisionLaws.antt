@@ -29,8 +29,7 @@ use Rattle.key_gen_state.specs.declared.KeyGenState.{KeyGenState}
 use Rattle.key_gen_state.specs.KeyGenState as running
 use Rattle.recipe.specs.Recipe.{RecipeOf}
 use Rattle.dynamic_honey_badger.specs.State.{StateOf, Stamp, nodes_in, with_params, new_era, fresh_key_gen, key_gen_for, part_due, candidate_nodes}
-use Rattle.decision.specs.declared.Elected.{Elected}
-use Rattle.decision.specs.Decision.{Decided, decided_as, completed_by, is_candidate, map_wins, with_schedule, schedule_wins, elected_by, decide, decide_by, parts_of, said_change, elected_of, is_empty_map, empty_wins}
+use Rattle.decision.specs.Decision.{Decided, decided_as, completed_by, is_candidate, map_wins, with_schedule, schedule_wins, elected_by, decide, decide_by, parts_of, is_empty_map, empty_wins}
 
 -- decisions are equal where their parts are
 pub same_decision : {s t : StateOf} {c d : ChangeStateOf} {xs ys : List DueItem} {p q : Found RecipeOf}
@@ -44,14 +43,6 @@ module _ (c : Change) where
 
   pub change_schedule : (x : EncryptionSchedule) → c.kind ≡ kind.EncryptionSchedule x → change_of c ≡ encryption_schedule x
   change_schedule x k = ap (λ (k : ChangeKind). change_of_kind k c.map) k
-
--- the winner as code holds it: one, or nobody
-module _ (e : Elected) where
-  pub elected_found : e.found ≡ true → elected_of e ≡ found (change_of e.change)
-  elected_found f = ap (λ (b : Bool). said_change b e.change) f
-
-  pub elected_none : e.found ≡ false → elected_of e ≡ nothing
-  elected_none f = ap (λ (b : Bool). said_change b e.change) f
 
 -- key generation that is ready is one that runs
 pub ready_runs : (k : KeyGenState) → running.ready_state (running.state_of k) ≡ true → running.state_of k ≡ found (running.running_of k)

@@ -1,6 +1,7 @@
 -- 01, steps 6 to 8: what a batch decides, once its votes and messages are in.
-use Rattle.std.specs.Prelude.{ℕ, ◌-◌, List, [], ◌∷◌, ◌++◌, Bool, true, false, cond, take, drop, replicate}
-use Rattle.lists.specs.Lists.{Found, found, nothing}
+use Rattle.std.specs.Prelude.{ℕ, ◌-◌, List, [], ◌∷◌, ◌++◌, Bool, false, cond, take, drop, replicate, None}
+use Rattle.std.specs.declared.option.Option.{Option}
+use Rattle.lists.specs.Lists.{Found, found, nothing, option_as_found}
 use Rattle.bincode.specs.Sizes.{Sizes}
 use Rattle.pub_key_map.specs.declared.Node.{Node}
 use Rattle.pub_key_map.specs.PubKeyMap.{same_nodes}
@@ -21,11 +22,10 @@ use Rattle.key_gen_state.specs.declared.KeyGenState.{KeyGenState}
 use Rattle.key_gen_state.specs.KeyGenState.{KeyGenStateOf, ready_state, state_of}
 use Rattle.message_store.specs.MessageStore.{from_era}
 use Rattle.recipe.specs.declared.Recipe.{Recipe}
-use Rattle.recipe.specs.Recipe.{RecipeOf, recipe, recipe_of, empty_recipe}
+use Rattle.recipe.specs.Recipe.{RecipeOf, recipe, recipe_of}
 use Rattle.joining.specs.Starting.{is_empty}
 use Rattle.dynamic_honey_badger.specs.State.{StateOf, Stamp, nodes_in, with_key_gen, with_params, new_era, key_gen_for, part_due, candidate_nodes}
 use Rattle.decision.specs.declared.Decision.{Decision}
-use Rattle.decision.specs.declared.Elected.{Elected}
 
 -- the state after the batch, the reported change, the due items that arise here, and the recipe where key generation completed
 pub record Decided : Type 0 where
@@ -85,17 +85,12 @@ decide z era s = cond (ready_state s.key_gen) (completed_by era s s.key_gen) (el
 abbrev pub decide_by : Sizes → ℕ → StateOf → Found ChangeOf → Decided
 decide_by z era s w = cond (ready_state s.key_gen) (completed_by era s s.key_gen) (elected_by z era s w)
 
--- as code holds it: whether there is a winner, and whether a part is due in the new era
-abbrev pub said_change : Bool → Change → Found ChangeOf
-said_change true c = found (change_of c)
-said_change false c = nothing
+-- as code holds it: the winner, and the recipe
+abbrev pub elected_of : Option Change → Found ChangeOf
+elected_of e = option_as_found change_of e
 
-abbrev pub elected_of : Elected → Found ChangeOf
-elected_of r = said_change r.found r.change
-
-abbrev pub said_recipe : Bool → Recipe → Found RecipeOf
-said_recipe true r = found (recipe_of r)
-said_recipe false r = nothing
+abbrev pub said_recipe : Option Recipe → Found RecipeOf
+said_recipe r = option_as_found recipe_of r
 
 -- the state that parts make, whatever the store holds and was reported last
 abbrev pub parts_of : Params → VoteCounter → KeyGenState → List SignedKeyGenMsgOf → Found Stamp → StateOf
@@ -108,7 +103,7 @@ decided_of era st l d =
       state = parts_of d.params d.vote_counter d.key_gen_state (cond d.restarted (from_era era st) st) l;
       change = progress_of d.change;
       due = cond d.part_due (record { kind = Part; era = era } ∷ []) [];
-      recipe = said_recipe d.has_recipe d.recipe;
+      recipe = said_recipe d.recipe;
     }
 
 -- the struct of a decision without a recipe
@@ -121,8 +116,7 @@ without_recipe p c k restarted change due =
       restarted = restarted;
       change = change;
       part_due = due;
-      has_recipe = false;
-      recipe = empty_recipe;
+      recipe = None;
     }
 
 -- row 7: the winning map is empty

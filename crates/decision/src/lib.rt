@@ -7,7 +7,6 @@ ghost use Rattle.lists.specs.Lists.{Found, found, nothing};
 ghost use Rattle.bincode.specs.Sizes.{base};
 ghost use Rattle.pub_key_map.specs.PubKeyMap.{nodes_of};
 ghost use Rattle.change.specs.Change.{change_of};
-ghost use Rattle.recipe.specs.Recipe.{NoRecipeEmpty};
 ghost use Rattle.vote_counter.specs.VoteCounter.{counter_of, compute_winner};
 ghost use Rattle.key_gen.specs.KeyGen.{fresh_held};
 ghost use Rattle.key_gen_message.specs.KeyGenMessage.{SignedKeyGenMsgOf};
@@ -23,10 +22,10 @@ use key_gen_state::KeyGenState;
 use params::Params;
 use pub_key_map::PubKeyMap;
 use recipe::Recipe;
-use vote_counter::{VoteCounter, Winner};
+use vote_counter::VoteCounter;
 
 // A node's state after a batch but for the store, and whether an era begins, so that the store loses lower eras; the reported change, whether a part is due, and the
-// recipe where key generation completed; else it is the empty one.
+// recipe where key generation completed.
 #[derive(Clone, Copy)]
 pub struct Decision {
     pub params: Params,
@@ -35,62 +34,38 @@ pub struct Decision {
     pub restarted: bool,
     pub change: ChangeState,
     pub part_due: bool,
-    pub has_recipe: bool,
-    pub recipe: Recipe,
+    pub recipe: Option<Recipe>,
 }
 
-// The winning change, or that there is none; then the change beside it does not count.
-#[derive(Clone, Copy)]
-pub struct Elected {
-    pub found: bool,
-    pub change: Change,
-}
-
-// No winner.
-fn nobody() -> Elected
-    ensures { elected_of result ≡ nothing }
-{
-    Elected {
-        found: false,
-        change: Change::node_change(PubKeyMap::empty()),
-    }
-}
-
-// Who wins, as a change; looked for only where more than f votes are committed.
-pub fn elect(counter: VoteCounter) -> Elected
+// The winning change, or that there is none; looked for only where more than f votes are committed.
+pub fn elect(counter: VoteCounter) -> Option<Change>
     ensures { elected_of result ≡ compute_winner (counter_of counter) }
 {
     let map = counter.pub_keys;
     let committed = counter.committed;
     if committed.len() <= network_info::num_faulty(map) {
-        return nobody();
+        return None;
     }
-    let Winner::Voter(i) = counter.compute_winner() else {
-        return nobody();
-    };
+    let i = counter.compute_winner()?;
     let x = committed.votes[i];
     let vote = x.vote;
     let change = vote.change;
-    Elected {
-        found: true,
-        change,
-    }
+    Some(change)
 }
 
 // Whether an empty map wins: row 7, where key generation is not ready.
-pub fn is_empty_map(e: Elected) -> bool
+pub fn is_empty_map(e: Option<Change>) -> bool
     ensures { result ≡ is_empty_map (elected_of e) }
 {
-    let change = e.change;
+    let Some(change) = e else {
+        return false;
+    };
     let kind = change.kind;
     let map = change.map;
-    if e.found {
-        return match kind {
-            ChangeKind::NodeChange => map.len() == 0,
-            ChangeKind::EncryptionSchedule(_) => false,
-        };
+    match kind {
+        ChangeKind::NodeChange => map.len() == 0,
+        ChangeKind::EncryptionSchedule(_) => false,
     }
-    false
 }
 
 // A decision without a recipe.
@@ -111,15 +86,13 @@ fn decided(
         restarted,
         change,
         part_due,
-        has_recipe: false,
-        recipe: Recipe::empty(),
+        recipe: None,
     }
 }
 
 // Step 6: the candidate map takes effect, key generation ends, a new era begins.
 fn complete(params: Params, counter: VoteCounter, state: KeyGenState, era: u64) -> Decision
-    ensures { ((st : List SignedKeyGenMsgOf) (l : Found Stamp) → decided_of era st l result ≡ completed_by era (parts_of params counter state st l) (found (running.running_of state)))
-        × NoRecipeEmpty result.has_recipe result.recipe }
+    ensures { (st : List SignedKeyGenMsgOf) (l : Found Stamp) → decided_of era st l result ≡ completed_by era (parts_of params counter state st l) (found (running.running_of state)) }
 {
     let key_gen = state.key_gen;
     let map = key_gen.pub_keys;
@@ -132,8 +105,7 @@ fn complete(params: Params, counter: VoteCounter, state: KeyGenState, era: u64) 
         restarted: true,
         change: ChangeState::complete(Change::node_change(map)),
         part_due: false,
-        has_recipe: true,
-        recipe: Recipe::generate(key_gen),
+        recipe: Some(Recipe::generate(key_gen)),
     }
 }
 
@@ -141,12 +113,9 @@ fn complete(params: Params, counter: VoteCounter, state: KeyGenState, era: u64) 
 fn is_candidate(state: KeyGenState, map: PubKeyMap) -> bool
     ensures { result ≡ is_candidate (candidate_nodes (running.state_of state)) (nodes_of map) }
 {
-    if state.running {
-        let key_gen = state.key_gen;
-        let candidate = key_gen.pub_keys;
-        return candidate.same(map);
-    }
-    false
+    let key_gen = state.key_gen;
+    let candidate = key_gen.pub_keys;
+    state.running && candidate.same(map)
 }
 
 // The proposals from one place on to another cleared.
@@ -154,10 +123,8 @@ fn clear(mut g: KeyGen, from: usize, to: usize) -> KeyGen
     requires { (from ≤ to) × (to ≤ base.nodes) }
     ensures { result ≡ cleared_held g from to }
 {
-    let mut i = from;
-    while i < to {
+    for i in from..to {
         g.proposals[i] = Proposal::empty();
-        i += 1;
     }
     g
 }
@@ -183,8 +150,7 @@ fn map_wins(
     era: u64,
     map: PubKeyMap,
 ) -> Decision
-    ensures { ((st : List SignedKeyGenMsgOf) (l : Found Stamp) → decided_of era st l result ≡ map_wins base era (parts_of params counter state st l) (nodes_of map))
-        × NoRecipeEmpty result.has_recipe result.recipe }
+    ensures { (st : List SignedKeyGenMsgOf) (l : Found Stamp) → decided_of era st l result ≡ map_wins base era (parts_of params counter state st l) (nodes_of map) }
 {
     let change = ChangeState::in_progress(Change::node_change(map));
     if is_candidate(state, map) {
@@ -218,8 +184,7 @@ fn schedule_wins(
     era: u64,
     schedule: EncryptionSchedule,
 ) -> Decision
-    ensures { ((st : List SignedKeyGenMsgOf) (l : Found Stamp) → decided_of era st l result ≡ schedule_wins era (parts_of params counter state st l) schedule)
-        × NoRecipeEmpty result.has_recipe result.recipe }
+    ensures { (st : List SignedKeyGenMsgOf) (l : Found Stamp) → decided_of era st l result ≡ schedule_wins era (parts_of params counter state st l) schedule }
 {
     let map = counter.pub_keys;
     let next = VoteCounter::new(counter.our_id, counter.secret_key, map, era);
@@ -236,8 +201,7 @@ fn change_wins(
     era: u64,
     change: Change,
 ) -> Decision
-    ensures { ((st : List SignedKeyGenMsgOf) (l : Found Stamp) → decided_of era st l result ≡ elected_by base era (parts_of params counter state st l) (found (change_of change)))
-        × NoRecipeEmpty result.has_recipe result.recipe }
+    ensures { (st : List SignedKeyGenMsgOf) (l : Found Stamp) → decided_of era st l result ≡ elected_by base era (parts_of params counter state st l) (found (change_of change)) }
 {
     let kind = change.kind;
     let map = change.map;
@@ -255,26 +219,15 @@ pub fn decide(
     counter: VoteCounter,
     state: KeyGenState,
     era: u64,
-    e: Elected,
+    e: Option<Change>,
 ) -> Decision
-    ensures { ((st : List SignedKeyGenMsgOf) (l : Found Stamp) → decided_of era st l result ≡ decide_by base era (parts_of params counter state st l) (elected_of e))
-        × NoRecipeEmpty result.has_recipe result.recipe }
+    ensures { (st : List SignedKeyGenMsgOf) (l : Found Stamp) → decided_of era st l result ≡ decide_by base era (parts_of params counter state st l) (elected_of e) }
 {
     if state.is_ready() {
         return complete(params, counter, state, era);
     }
-    if e.found {
-        let change = e.change;
-        return change_wins(params, counter, state, era, change);
-    }
-    Decision {
-        params,
-        vote_counter: counter,
-        key_gen_state: state,
-        restarted: false,
-        change: ChangeState::none(),
-        part_due: false,
-        has_recipe: false,
-        recipe: Recipe::empty(),
-    }
+    let Some(change) = e else {
+        return decided(params, counter, state, false, ChangeState::none(), false);
+    };
+    change_wins(params, counter, state, era, change)
 }

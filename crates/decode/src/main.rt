@@ -3,14 +3,11 @@
 #![tactic(auto)]
 
 mod counts;
-mod hex;
 mod lines;
 mod show;
 mod text;
 mod values;
 
 fn main(rt: HostRuntime) -> anyhow::Result<()> {
-    let mut line = [0u8; 140001];
-    let mut out = [0u8; 200000];
-    lines::read_all(&mut rt.stdin(), &mut rt.stdout(), &mut line, &mut out)
+    lines::answer_all(rt.alloc(), rt.stdin(), &mut rt.stdout())
 }

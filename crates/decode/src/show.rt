@@ -1,162 +1,74 @@
 // Answers one line.
-ghost use Rattle.std.specs.Prelude.{◌≤◌, length};
-
-use crate::hex::Unhexed;
-use crate::text::bad_line;
+use crate::text::Failure;
 use crate::{counts, values};
+use hex::FromHexError;
+use std::alloc::Global;
 
-const LIMIT: usize = 140000;
+// The greatest length of a line.
+pub const LIMIT: usize = 140000;
 
-fn equal(a: &[u8], b: &[u8]) -> bool {
-    if a.len() != b.len() {
-        return false;
-    }
-    let mut i: usize = 0;
-    while i < a.len() {
-        if i < b.len() {
-            if a[i] != b[i] {
-                return false;
-            }
-        }
-        i += 1;
-    }
-    true
-}
-
-// The kinds that stand in a vote, and the leaves; no answer where it is none of them, as in the two below.
-fn small(out: &mut [u8], kind: &[u8], b: &[u8]) -> usize {
-    if equal(kind, b"map") {
-        return values::map(out, b);
-    }
-    if equal(kind, b"schedule") {
-        return values::schedule(out, b);
-    }
-    if equal(kind, b"params") {
-        return values::parameters(out, b);
-    }
-    if equal(kind, b"change") {
-        return values::change(out, b);
-    }
-    if equal(kind, b"state") {
-        return values::state(out, b);
-    }
-    if equal(kind, b"vote") {
-        return values::vote(out, b);
-    }
-    if equal(kind, b"signed-vote") {
-        return values::signed_vote(out, b);
-    }
-    0
-}
-
-// Key generation, messages, plans and batches.
-fn large(out: &mut [u8], kind: &[u8], b: &[u8]) -> usize {
-    if equal(kind, b"part") {
-        return values::part(out, b);
-    }
-    if equal(kind, b"ack") {
-        return values::ack(out, b);
-    }
-    if equal(kind, b"key-gen") {
-        return values::key_gen(out, b);
-    }
-    if equal(kind, b"signed-key-gen") {
-        return values::signed_key_gen(out, b);
-    }
-    if equal(kind, b"message") {
-        return values::message(out, b);
-    }
-    if equal(kind, b"plan") {
-        return values::plan(out, b);
-    }
-    if equal(kind, b"batch") {
-        return values::batch(out, b);
-    }
-    if equal(kind, b"user") {
-        return values::user(out, b);
-    }
-    0
-}
-
-// What is worked out from a value.
-fn counted(out: &mut [u8], kind: &[u8], b: &[u8]) -> usize {
-    if equal(kind, b"max-faulty") {
-        return counts::faulty(out, b);
-    }
-    if equal(kind, b"winner") {
-        return counts::winner(out, b);
-    }
-    if equal(kind, b"complete") {
-        return counts::complete(out, b);
-    }
-    0
-}
-
-fn dispatch(out: &mut [u8], kind: &[u8], b: &[u8]) -> usize {
-    let x = small(out, kind, b);
-    if 0 < x {
-        return x;
-    }
-    let y = large(out, kind, b);
-    if 0 < y {
-        return y;
-    }
-    let z = counted(out, kind, b);
-    if 0 < z {
-        return z;
-    }
-    bad_line(out)
-}
-
-// The place of the first space, or the length.
-fn space(s: &[u8]) -> usize
-    ensures { result ≤ length s.now }
-{
-    let mut i: usize = 0;
-    while i < s.len() {
-        if s[i] == b' ' {
-            return i;
-        }
-        i += 1;
-    }
-    i
-}
-
-// The kind, and the digits behind one space; `-` stands for no bytes.
-fn value(out: &mut [u8], kind: &[u8], digits: &[u8]) -> usize {
-    if equal(digits, b"-") {
-        return dispatch(out, kind, b"");
-    }
-    if digits.len() == 0 {
-        return bad_line(out);
-    }
-    let mut buf = [0u8; 70000];
-    match crate::hex::unhex(digits, &mut buf) {
-        Unhexed::Bytes(n) => {
-            if n <= 70000 {
-                return dispatch(out, kind, &buf[0..n]);
-            }
-            bad_line(out)
-        }
-        Unhexed::Bad => bad_line(out),
+// The answer of a kind for bytes.
+fn dispatch(kind: &str, b: &[u8], out: &mut String) -> Result<(), Failure> {
+    match kind {
+        "map" => values::map(b, out),
+        "schedule" => values::schedule(b, out),
+        "params" => values::parameters(b, out),
+        "change" => values::change(b, out),
+        "state" => values::state(b, out),
+        "vote" => values::vote(b, out),
+        "signed-vote" => values::signed_vote(b, out),
+        "part" => values::part(b, out),
+        "ack" => values::ack(b, out),
+        "key-gen" => values::key_gen(b, out),
+        "signed-key-gen" => values::signed_key_gen(b, out),
+        "message" => values::message(b, out),
+        "plan" => values::plan(b, out),
+        "batch" => values::batch(b, out),
+        "user" => values::user(b, out),
+        "max-faulty" => counts::faulty(b, out),
+        "winner" => counts::winner(b, out),
+        "complete" => counts::complete(b, out),
+        _ => Err(Failure::BadLine),
     }
 }
 
-// Puts the answer of a line into `out`, and answers how many bytes it has. A line that is empty or begins with `#` answers nothing.
-pub(crate) fn answer(out: &mut [u8], s: &[u8]) -> usize {
-    if LIMIT < s.len() {
-        return bad_line(out);
+// The bytes that lowercase digits stand for; `-` stands for none.
+fn unhex(alloc: Global, digits: &str) -> Result<Vec<u8>, Failure> {
+    if digits == "-" {
+        return Ok(Vec::new(alloc));
     }
-    if s.len() == 0 {
-        return 0;
+    if digits.is_empty() || digits.bytes().any(|b| b.is_ascii_uppercase()) {
+        return Err(Failure::BadLine);
     }
-    if s[0] == b'#' {
-        return 0;
+    hex::decode(alloc, digits).map_err(|e| match e {
+        FromHexError::OutOfMemory => Failure::OutOfMemory,
+        _ => Failure::BadLine,
+    })
+}
+
+// A kind, one space, and digits. A line that is empty or begins with `#` answers nothing.
+fn value(line: &[u8], out: &mut String) -> Result<(), Failure> {
+    if LIMIT < line.len() {
+        return Err(Failure::BadLine);
     }
-    let k = space(s);
-    if k < s.len() {
-        let from = k + 1;
-        return value(out, &s[0..k], &s[from..]);
+    if line.is_empty() || line.starts_with(b"#") {
+        return Ok(());
     }
-    bad_line(out)
+    let Ok(text) = str::from_utf8(line) else {
+        return Err(Failure::BadLine);
+    };
+    let Some((kind, digits)) = text.split_once(' ') else {
+        return Err(Failure::BadLine);
+    };
+    let bytes = unhex(*out.allocator(), digits)?;
+    dispatch(kind, &bytes, out)
+}
+
+// Puts the answer of a line into `out`; only where memory has run out there is none.
+pub(crate) fn answer(line: &[u8], out: &mut String) -> Result<(), Failure> {
+    match value(line, out) {
+        Ok(()) => Ok(()),
+        Err(Failure::OutOfMemory) => Err(Failure::OutOfMemory),
+        Err(failure) => Ok(writeln!(out, "{failure}")?),
+    }
 }

@@ -59,12 +59,7 @@ impl DueList {
     pub fn len(self) -> usize
         ensures { (result ≡ length (due_of self)) × (result ≤ base.due) }
     {
-        let n = self.count;
-        if n < DueList::LIMIT {
-            n
-        } else {
-            DueList::LIMIT
-        }
+        self.count.min(DueList::LIMIT)
     }
 
     // One item more; a full list has no place for it.

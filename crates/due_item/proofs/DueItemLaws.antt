@@ -7,10 +7,12 @@ use mathlib.Core.Path.{◌≡◌, refl, sym, ap, ◌∙◌}
 use Prim.Native.Nat.{ℕ}
 use lib.Dec.{ltb}
 use lib.ListN.{length}
+use Rattle.std.specs.declared.result.Result.TheVariants.{Ok}
+use Rattle.bincode.specs.Answer.{answer}
 use Rattle.bincode.specs.Numbers.{read_num}
 use Rattle.bincode.specs.Read.{value, refuse, whole}
 use Rattle.bincode.specs.Sizes.{Sizes}
-use Rattle.bincode.proofs.ReadLaws.{same_value, bind_value, cond_value, whole_refused}
+use Rattle.bincode.proofs.ReadLaws.{answer_ok, same_value, bind_value, cond_value, whole_refused}
 use Rattle.lists.proofs.ListLaws.{cond_yes}
 use Rattle.pub_key_map.specs.declared.Node.{Node}
 use Rattle.network_info.specs.NetworkInfo.{is_member}
@@ -121,3 +123,11 @@ module _ (z : Sizes) (s : StateOf) (bytes : List ℕ) where
       ap {B = HandledOf} (λ (y : Message). returned_key_gen z s (signed_by y.era s.counter.our_id (message_of y.message) y.sig)) (h ∙ ap content_held k.3)
       ∙ ap {B = HandledOf} (λ (y : MessageContent). returned_read z s (value y d)) (held_content (key_gen k.0 k.1 k.2) ∙ sym k.3)
       ∙ sym (due_read x d r)
+
+  -- by the answer that code gives: a message that was read behind the tag is returned under the own id
+  pub due_returned : (tag c : ℕ) → read_num 4 bytes 0 ≡ value tag c → tag ≡ 1 → (m : Message) (d : ℕ) → answer content_held (whole (read_message z bytes) bytes) ≡ Ok (m, d)
+      → (id : ℕ) → s.counter.our_id ≡ id → returned z s bytes ≡ returned_key_gen z s (signed_by m.era id (message_of m.message) m.sig)
+  due_returned tag c e one m d r id ours =
+      let x = answer_ok content_held (whole (read_message z bytes) bytes) m d r in
+      let y = due_as_message z bytes tag c e one ∙ x.1 in
+      sym (due_held x.0 d y (due_key_gen z bytes tag c e one x.0 d y) m x.2) ∙ ap (λ (k : ℕ). returned_key_gen z s (signed_by m.era k (message_of m.message) m.sig)) ours

@@ -6,70 +6,48 @@ ghost use Rattle.bincode.specs.Sizes.{base};
 ghost use Rattle.pub_key_map.specs.PubKeyMap.{nodes_of};
 ghost use Rattle.dynamic_honey_badger.specs.State.{state_of};
 ghost use Rattle.dynamic_honey_badger.specs.Received.{handled_of, MessageRefusedKeeps, returned};
-ghost use Rattle.due_item.specs.Fate.{not_stored, FatedFor};
+ghost use Rattle.due_item.specs.Fate.{FatedFor};
 
-use bincode::{ReadU32, Step};
-use dynamic_honey_badger::{DynamicHoneyBadger, Handled, Handling};
+use bincode::Refusal;
+use dynamic_honey_badger::{DynamicHoneyBadger, Handled};
 use key_gen_message::SignedKeyGenMsg;
 use message_store::MessageStore;
 use pub_key_map::PubKeyMap;
 
-// Whether a due item is stored, what it did, and the message to store; it is empty where none is.
-#[derive(Clone, Copy)]
-struct Fated {
-    stored: bool,
-    outcome: Handling,
-    m: SignedKeyGenMsg,
-}
-
-// One that is dropped or refused.
-fn not_stored(outcome: Handling) -> Fated
-    ensures { result ≡ not_stored outcome }
-{
-    Fated {
-        stored: false,
-        outcome,
-        m: SignedKeyGenMsg::empty(),
-    }
-}
-
-// `Message::KeyGen` bytes (another tag is 2), the signature unchecked; one of another era, or made by a non-validator, is dropped.
-fn fate(message: &[u8], era: u64, map: PubKeyMap, our_id: u32, held: usize) -> Fated
+// What a due item comes to: a message to store, nothing, or a refusal. `Message::KeyGen` bytes (another tag is 2), the signature unchecked; one of another era, or made
+// by a non-validator, is dropped.
+fn fate(
+    message: &[u8],
+    era: u64,
+    map: PubKeyMap,
+    our_id: u32,
+    held: usize,
+) -> Result<Option<SignedKeyGenMsg>, Refusal>
     ensures { FatedFor base era (nodes_of map) our_id held message.now result }
 {
-    let ReadU32::Value(tag, _) = bincode::read_u32(message, 0) else {
-        return not_stored(Handling::Refused(2));
+    let Ok((tag, _)) = bincode::read_u32(message, 0) else {
+        return Err(Refusal::Malformed);
     };
     if tag != 1 {
-        return not_stored(Handling::Refused(2));
+        return Err(Refusal::Malformed);
     }
-    let r = message::read_whole_message(message);
-    let step = r.step;
-    let read = r.message;
-    let body = read.message;
-    let Step::Next(_) = step else {
-        return not_stored(Handling::Refused(step.number()));
-    };
+    let (read, _) = message::read_whole_message(message)?;
     if read.era != era {
-        return not_stored(Handling::Quiet);
+        return Ok(None);
     }
     if !network_info::is_member(map, our_id) {
-        return not_stored(Handling::Quiet);
+        return Ok(None);
     }
     if held < MessageStore::LIMIT {
-        let m = SignedKeyGenMsg {
+        let body = read.message;
+        return Ok(Some(SignedKeyGenMsg {
             era: read.era,
             id: our_id,
             message: body,
             sig: read.sig,
-        };
-        return Fated {
-            stored: true,
-            outcome: Handling::Quiet,
-            m,
-        };
+        }));
     }
-    not_stored(Handling::Refused(12))
+    Err(Refusal::StoreFull)
 }
 
 // A due item handed back: its fate is decided by small parts, and then only the store is touched.
@@ -79,14 +57,18 @@ pub fn handle_due_item(mut state: DynamicHoneyBadger, message: &[u8]) -> Handled
     let counter = state.vote_counter;
     let map = counter.pub_keys;
     let store = state.store;
-    let f = fate(message, counter.era, map, counter.our_id, store.count);
-    if f.stored {
-        let store = state.store;
-        let m = f.m;
-        let p = store.push(m);
-        let next = p.store;
-        state.store = next;
+    let mut outcome = Ok(None);
+    match fate(message, counter.era, map, counter.our_id, store.count) {
+        Ok(Some(m)) => {
+            let store = state.store;
+            let p = store.push(m);
+            let next = p.store;
+            state.store = next;
+        }
+        Ok(None) => {}
+        Err(n) => {
+            outcome = Err(n);
+        }
     }
-    let outcome = f.outcome;
     Handled { state, outcome }
 }

@@ -7,12 +7,16 @@ use mathlib.Core.Path.{◌≡◌, refl, sym, ap, ◌∙◌}
 use native.Mathlib.Omega.{arith}
 use Prim.Native.Nat.{ℕ, ◌+◌, ◌≤◌, ◌<◌}
 use lib.Dec.{leb}
+use Rattle.std.specs.declared.result.Result.{Result}
+use Rattle.std.specs.declared.result.Result.TheVariants.{Ok, Err}
 use lib.ListN.{length, length-map}
 use Rattle.lists.specs.Lists.{Found, found, nothing}
 use Rattle.lists.proofs.ListLaws.{length_live}
 use Rattle.bincode.specs.Outcome.{done, refused}
-use Rattle.bincode.specs.Read.{Read, value}
+use Rattle.bincode.specs.Rows.{row_number}
 use Rattle.bincode.specs.Sizes.{Sizes, base}
+use Rattle.bincode.specs.declared.Refusal.{Refusal}
+use Rattle.bincode.proofs.ReadLaws.{cross}
 use Rattle.pub_key_map.specs.declared.Node.{Node}
 use Rattle.fault_log.specs.declared.FaultKind.TheVariants.{InvalidKeyGenMessageSignature, UnexpectedKeyGenMessage, TooManyKeyGenMessages}
 use Rattle.vote_counter.specs.declared.VoteOutcome.{VoteOutcome}
@@ -21,18 +25,13 @@ use Rattle.vote_counter.specs.Answers.{said_outcome}
 use Rattle.key_gen.specs.KeyGen.{node_count}
 use Rattle.key_gen_state.specs.KeyGenState.{KeyGenStateOf, CountedOf, count_messages}
 use Rattle.key_gen_message.specs.KeyGenMessage.{SignedKeyGenMsgOf, signed_of}
-use Rattle.message.specs.declared.Message.{Message}
-use Rattle.message.specs.Message.{MessageContent, content_of, content_held}
 use Rattle.message_store.specs.declared.MessageStore.{MessageStore}
-use Rattle.message_store.specs.declared.PushOutcome.{PushOutcome}
-use Rattle.message_store.specs.declared.PushOutcome.TheVariants as push
-use Rattle.message_store.specs.MessageStore.{row12, pushed, held, store_of, said_push}
+use Rattle.message_store.specs.MessageStore.{row12, pushed, held, store_of, pushed_of}
 use Rattle.message_store.proofs.StoreLaws.{row12_not, row12_holds}
-use Rattle.dynamic_honey_badger.specs.declared.Handling.TheVariants as handling
-use Rattle.dynamic_honey_badger.specs.Received.{HandledOf, fault, refusal, handled_as, vote_effect, stored_in, received_key_gen, received_content, received_read, said_handling}
+use Rattle.dynamic_honey_badger.specs.Received.{HandledOf, fault, refusal, handled_as, vote_effect, stored_in, received_key_gen, said_handling}
 use Rattle.dynamic_honey_badger.specs.Parts.{added_as, PartsOf}
 use Rattle.dynamic_honey_badger.specs.State.{StateOf, nodes_in, with_key_gen, candidate_nodes, valid_under, valid_signature}
-use Rattle.dynamic_honey_badger.proofs.ReceivedLaws.{quiet_not_refused, fault_not_refused, held_content, key_invalid, key_valid, key_unexpected, key_many, key_stored}
+use Rattle.dynamic_honey_badger.proofs.ReceivedLaws.{key_invalid, key_valid, key_unexpected, key_many, key_stored}
 
 -- by the count of a store alone it is told whether the store is full
 pub full_by_count : (x : MessageStore) → length x.messages ≡ base.store → row12 base (store_of x) ≡ leb base.store x.count
@@ -56,9 +55,9 @@ module _ (z : Sizes) (ms : List SignedKeyGenMsgOf) (m : SignedKeyGenMsgOf) where
   room_stores e = rw e
 
   -- one with room stores
-  pub push_stored : row12 z ms ≡ false → (o : PushOutcome) (x : MessageStore) → said_push o x ≡ pushed z ms m → pushed z ms m ≡ done (store_of x)
-  push_stored r push.Stored x e = sym e
-  push_stored r (push.Refused n) x e = absurd (refused_not_done n (ms ++ (m ∷ [])) (e ∙ room_stores r))
+  pub push_stored : row12 z ms ≡ false → (o : Result Unit Refusal) (x : MessageStore) → pushed_of (record { store = x; outcome = o }) ≡ pushed z ms m → pushed z ms m ≡ done (store_of x)
+  push_stored r (Ok u) x e = sym e
+  push_stored r (Err n) x e = absurd (refused_not_done (row_number n) (ms ++ (m ∷ [])) (e ∙ room_stores r))
 
 -- adding a vote tells of its message, and never refuses it
 pub added_tells : (o : VoteOutcome) → said_handling (added_as o) ≡ vote_effect (said_outcome o)
@@ -66,15 +65,10 @@ added_tells added.Stored = refl
 added_tells added.Nothing = refl
 added_tells (added.Faulty k) = refl
 
-pub added_not_refused : (o : VoteOutcome) (n : ℕ) → added_as o ≡ handling.Refused n → ⊥
-added_not_refused added.Stored n e = quiet_not_refused n e
-added_not_refused added.Nothing n e = quiet_not_refused n e
-added_not_refused (added.Faulty k) n e = fault_not_refused k n e
-
--- what was read is what the struct holds
-pub read_content : (z : Sizes) (s : StateOf) (sender : ℕ) (x : Read MessageContent) (y : MessageContent) (at : ℕ) (m : Message) → x ≡ value y at → m ≡ content_held y
-    → received_read z s sender x ≡ received_content z s sender (content_of m)
-read_content z s sender x y at m e h = ap (received_read z s sender) e ∙ ap (received_content z s sender) (sym (ap content_of h ∙ held_content y))
+pub added_not_refused : (o : VoteOutcome) (n : Refusal) → added_as o ≡ Err n → ⊥
+added_not_refused added.Stored n e = cross e
+added_not_refused added.Nothing n e = cross e
+added_not_refused (added.Faulty k) n e = cross e
 
 -- a key message, by the parts: its signature, running key generation, its sender's count, the store
 module _ (z : Sizes) (s : StateOf) (ns : List Node) (g : Found KeyGenStateOf) (held : ℕ) (p : PartsOf z s ns g held) (m : SignedKeyGenMsgOf) where

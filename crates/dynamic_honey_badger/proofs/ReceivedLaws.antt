@@ -8,8 +8,8 @@ use Prim.Native.Nat.{ℕ, ◌+◌, ◌≤◌, ◌<◌}
 use native.Mathlib.Omega.{arith}
 use Rattle.lists.specs.Lists.{found, nothing}
 use Rattle.bincode.specs.Outcome.{Outcome}
+use Rattle.bincode.specs.Read.{value, refuse, whole}
 use Rattle.bincode.specs.Sizes.{Sizes}
-use Rattle.fault_log.specs.declared.FaultKind.{FaultKind}
 use Rattle.fault_log.specs.declared.FaultKind.TheVariants.{UnexpectedDhbMessageEra, InvalidKeyGenMessageSignature, UnexpectedKeyGenMessage, TooManyKeyGenMessages}
 use Rattle.votes.proofs.VoteLaws.{held_vote}
 use Rattle.key_gen.specs.KeyGen.{node_count}
@@ -17,17 +17,10 @@ use Rattle.key_gen_state.specs.KeyGenState.{KeyGenStateOf, CountedOf, count_mess
 use Rattle.key_gen_message.specs.KeyGenMessage.{KeyGenMessageOf, SignedKeyGenMsgOf}
 use Rattle.key_gen_message.proofs.MessageLaws.{held_message}
 use Rattle.message_store.specs.MessageStore.{pushed}
-use Rattle.message.specs.Message.{MessageContent, key_gen, signed_vote, content_of, content_held}
-use Rattle.dynamic_honey_badger.specs.declared.Handling.TheVariants as handling
-use Rattle.dynamic_honey_badger.specs.Received.{quiet, fault, handled_as, stored_in, counted_in, key_gen_in, received_key_gen, message_era, received_now, received_content}
+use Rattle.message.specs.declared.Message.{Message}
+use Rattle.message.specs.Message.{MessageContent, key_gen, signed_vote, content_of, content_held, read_message}
+use Rattle.dynamic_honey_badger.specs.Received.{quiet, fault, refusal, handled_as, stored_in, counted_in, key_gen_in, received_key_gen, message_era, received_now, received_content, received_read, received}
 use Rattle.dynamic_honey_badger.specs.State.{StateOf, era_of, nodes_in, with_key_gen, valid_signature}
-
--- neither quiet nor a fault is a refusal
-pub quiet_not_refused : (n : ℕ) → handling.Quiet ≡ handling.Refused n → ⊥
-quiet_not_refused n e = let z : ◌≡◌ {A = ℕ} 0 1 = cc in omega arith
-
-pub fault_not_refused : (k : FaultKind) (n : ℕ) → handling.Faulty k ≡ handling.Refused n → ⊥
-fault_not_refused k n e = let z : ◌≡◌ {A = ℕ} 0 1 = cc in omega arith
 
 -- a struct that holds what was read stands for it
 pub held_content : (m : MessageContent) → content_of (content_held m) ≡ m
@@ -73,3 +66,14 @@ module _ (z : Sizes) (s : StateOf) where
       pub content_now : era_of s ≤ era → received_content z s sender m ≡ received_now z s sender m
       unfolding received_content
       content_now k = rw (le-ltb (era_of s) (message_era m) (omega (arith, e)), le-ltb (message_era m) (era_of s) (omega (arith, e)))
+
+  -- a message as bytes: refused where it cannot be read, else what was read is what the struct holds
+  module _ (sender : ℕ) (bytes : List ℕ) where
+    pub message_refused : (n : ℕ) → whole (read_message z bytes) bytes ≡ refuse n → received z s sender bytes ≡ handled_as s (refusal n)
+    unfolding received
+    message_refused n e = ap (received_read z s sender) e
+
+    pub message_read : (y : MessageContent) (at : ℕ) (m : Message) → whole (read_message z bytes) bytes ≡ value y at → m ≡ content_held y
+        → received z s sender bytes ≡ received_content z s sender (content_of m)
+    unfolding received
+    message_read y at m e h = ap (received_read z s sender) e ∙ ap (received_content z s sender) (sym (ap content_of h ∙ held_content y))

@@ -1,4 +1,4 @@
--- Laws of a node's state: how it starts, and what an era empties.
+-- Laws of a node's state: the candidate map, a fresh key generation, and what a plan's change asks of a node that joins.
 -- Assumes nothing.
 use mathlib.Core.Bool.{Bool, true, false, cond}
 use mathlib.Core.List.{[]}
@@ -20,10 +20,7 @@ use Rattle.key_gen.specs.KeyGen.{KeyGenOf, key_gen_of, fresh_held}
 use Rattle.key_gen.proofs.KeyGenLaws.{fresh}
 use Rattle.key_gen_state.specs.declared.KeyGenState.{KeyGenState}
 use Rattle.key_gen_state.specs.KeyGenState as running
-use Rattle.joining.specs.declared.StartOutcome.{StartOutcome}
-use Rattle.joining.specs.declared.StartOutcome.TheVariants as start
-use Rattle.joining.specs.Starting.{StartOf, said_start}
-use Rattle.dynamic_honey_badger.specs.State.{StateOf, state_of, with_key_gen, key_gen_for, part_due, opened, started_from, in_progress_map, candidate_nodes, joined_by}
+use Rattle.dynamic_honey_badger.specs.State.{StateOf, state_of, with_key_gen, key_gen_for, part_due, in_progress_map, candidate_nodes, joined_by}
 use Rattle.dynamic_honey_badger.specs.declared.DynamicHoneyBadger.{DynamicHoneyBadger}
 
 -- the candidate map, by whether key generation runs
@@ -41,16 +38,6 @@ pub key_gen_begun : (s : DynamicHoneyBadger) (m : PubKeyMap) (k : KeyGen) (g : K
 unfolding key_gen_for
 key_gen_begun s m k g e f =
     ap {B = StateOf} (λ (x : Found running.KeyGenStateOf). with_key_gen (state_of s) x) (f ∙ ap {B = Found running.KeyGenStateOf} (λ (y : KeyGenOf). found (running.fresh_state base y)) (ap key_gen_of e ∙ fresh s.vote_counter.our_id m))
-
--- beside a refusal it does not matter what would have been opened
-pub start_denied : (id key era n : ℕ) (o : StartOutcome) (a : StartOf) (s : StateOf) → o ≡ start.Refused n → said_start o s ≡ started_from id key era (said_start o a)
-start_denied id key era n o a s e =
-    ap (λ (x : StartOutcome). said_start x s) e ∙ sym (ap (λ (x : StartOutcome). started_from id key era (said_start x a)) e)
-
--- a node starts where its map and parameters are accepted, and not where they are refused
-pub start_said : (id key era : ℕ) (o : StartOutcome) (a : StartOf) → said_start o (opened id key era a.keys a.params) ≡ started_from id key era (said_start o a)
-start_said id key era start.Accepted a = refl
-start_said id key era (start.Refused n) a = refl
 
 -- what a plan's change asks: a fresh key generation where a map is in progress, else nothing
 module _ (z : Sizes) (id era : ℕ) (s : StateOf) where

@@ -1,17 +1,18 @@
 -- What a host asks a node between batches: `should_propose`, `next_epoch`, `last_report`, the board.
 use Rattle.std.specs.Prelude.{ℕ, ◌+◌, List, [], ◌∷◌, Bool, true, false, cond, length, ltb, eqb}
-use Rattle.lists.specs.Lists.{Found, found, nothing}
+use Rattle.std.specs.declared.option.Option.{Option}
+use Rattle.std.specs.declared.result.Result.{Result}
+use Rattle.lists.specs.Lists.{Found}
+use Rattle.bincode.specs.Answer.{outcome_as_said}
+use Rattle.bincode.specs.declared.Refusal.{Refusal}
 use Rattle.bincode.specs.Outcome.{Outcome, done, refused}
 use Rattle.util.specs.MaxFaulty.{max_faulty}
 use Rattle.key_gen_message.specs.KeyGenMessage.{SignedKeyGenMsgOf}
 use Rattle.votes.specs.Votes.{SignedVoteOf}
 use Rattle.board.specs.Board.{StandingOf}
 use Rattle.vote_counter.specs.VoteCounter.{pending_votes, board_row}
-use Rattle.dynamic_honey_badger.specs.State.{StateOf, Stamp, era_of, nodes_in}
-use Rattle.dynamic_honey_badger.specs.declared.LastReport.{LastReport}
-use Rattle.dynamic_honey_badger.specs.declared.LastReport.TheVariants as last
-use Rattle.dynamic_honey_badger.specs.declared.NextEpoch.{NextEpoch}
-use Rattle.dynamic_honey_badger.specs.declared.NextEpoch.TheVariants as next
+use Rattle.dynamic_honey_badger.specs.State.{StateOf, Stamp, era_of, nodes_in, stamp_held}
+use Rattle.dynamic_honey_badger.specs.declared.ReportStamp.{ReportStamp}
 
 -- row 5: an epoch over 2^64-2
 unfoldable pub row5 : ℕ → Bool
@@ -40,17 +41,15 @@ should_propose s has-input proposals =
     (cond (some_by s.counter.our_id (pending_votes s.counter)) true
     (some_stored s.store)))
 
-abbrev pub said_next : NextEpoch → Outcome ℕ
-said_next (next.Epoch n) = done n
-said_next (next.Refused n) = refused n
+abbrev pub said_next : Result ℕ Refusal → Outcome ℕ
+said_next r = outcome_as_said (λ (n : ℕ). n) r
 
 -- 02, CR 1: era and epoch of the last report, kept with the state, or none
 abbrev pub last_report : StateOf → Found Stamp
 last_report s = s.last
 
-abbrev pub said_last : LastReport → Found Stamp
-said_last (last.Report epoch era) = found (record { epoch = epoch; era = era })
-said_last last.None = nothing
+abbrev pub said_last : Option ReportStamp → Found Stamp
+said_last r = stamp_held r
 
 -- 02, CR 3: the board by place, as the counter keeps it
 abbrev pub board_at : StateOf → ℕ → Found StandingOf

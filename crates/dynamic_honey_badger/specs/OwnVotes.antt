@@ -1,19 +1,21 @@
 -- 01, "Own votes": 2 and 3; a non-validator's then does nothing; 13; 11.
-use Rattle.std.specs.Prelude.{ℕ, ◌≡◌, List, Bool, true, false, cond, eqb}
-use Rattle.lists.specs.Lists.{Found, found, nothing}
+use Rattle.std.specs.Prelude.{ℕ, ◌≡◌, List, Bool, true, false, cond, eqb, Some, None, Ok, Err}
+use Rattle.std.specs.declared.option.Option.{Option}
+use Rattle.std.specs.declared.result.Result.{Result}
+use Rattle.lists.specs.Lists.{Found, found, nothing, option_as_found}
+use Rattle.bincode.specs.Answer.{outcome_as_said}
+use Rattle.bincode.specs.declared.Refusal.{Refusal}
 use Rattle.bincode.specs.Read.{Read, value, refuse, whole}
 use Rattle.bincode.specs.Outcome.{Outcome, done, refused}
 use Rattle.bincode.specs.Numbers.{fixed}
 use Rattle.bincode.specs.Sizes.{Sizes}
 use Rattle.change.specs.Change.{ChangeOf, node_change, read_change}
 use Rattle.votes.specs.declared.SignedVote.{SignedVote}
-use Rattle.votes.specs.Votes.{SignedVoteOf, signed_of, signed_held, no_signed}
+use Rattle.votes.specs.Votes.{SignedVoteOf, signed_of}
 use Rattle.vote_counter.specs.VoteCounter.{Signed, sign_vote_for}
 use Rattle.node_change.specs.NodeChange.{row13, with_node, without_node}
 use Rattle.dynamic_honey_badger.specs.State.{StateOf, nodes_in, with_counter, is_validator, state_of}
 use Rattle.dynamic_honey_badger.specs.declared.DynamicHoneyBadger.{DynamicHoneyBadger}
-use Rattle.dynamic_honey_badger.specs.declared.VoteDone.{VoteDone}
-use Rattle.dynamic_honey_badger.specs.declared.VoteDone.TheVariants as vote
 use Rattle.dynamic_honey_badger.specs.declared.Voted.{Voted}
 
 -- the state, and the vote to broadcast, that there is none, or a refusal
@@ -54,23 +56,18 @@ vote_to_add z s id key =
 unfoldable pub vote_to_remove : Sizes → StateOf → ℕ → VotedOf
 vote_to_remove z s id = vote_for z s (node_change (without_node (nodes_in s) id))
 
--- the answer as code gives it: the vote stands beside it
-abbrev pub said_done : VoteDone → SignedVote → Outcome (Found SignedVoteOf)
-said_done vote.Cast v = done (found (signed_of v))
-said_done vote.Nothing v = done nothing
-said_done (vote.Refused n) v = refused n
+-- the answer as code gives it
+abbrev pub said_vote : Result (Option SignedVote) Refusal → Outcome (Found SignedVoteOf)
+said_vote r = outcome_as_said (option_as_found signed_of) r
 
 abbrev pub voted_of : Voted → VotedOf
-voted_of r = voted_as (state_of r.state) (said_done r.outcome r.vote)
+voted_of r = voted_as (state_of r.state) (said_vote r.outcome)
 
--- where no vote was cast stand the very state that was given, places that do not count included, and the empty vote
-abbrev pub was_cast : VoteDone → Bool
-was_cast vote.Cast = true
-was_cast vote.Nothing = false
-was_cast (vote.Refused n) = false
-
-abbrev pub not_cast : DynamicHoneyBadger → VoteDone → Voted
-not_cast s o = record { state = s; outcome = o; vote = signed_held no_signed }
+-- where no vote was cast stands the very state that was given, places that do not count included
+abbrev pub was_cast : Result (Option SignedVote) Refusal → Bool
+was_cast (Ok (Some v)) = true
+was_cast (Ok None) = false
+was_cast (Err r) = false
 
 abbrev pub NotCastKeeps : Voted → DynamicHoneyBadger → Type 0
-NotCastKeeps r s = was_cast r.outcome ≡ false → r ≡ not_cast s r.outcome
+NotCastKeeps r s = was_cast r.outcome ≡ false → r.state ≡ s

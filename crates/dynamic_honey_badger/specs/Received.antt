@@ -1,10 +1,14 @@
 -- 01: received messages. 2 and 3; then era, signature, running key generation, count, store.
-use Rattle.std.specs.Prelude.{ℕ, ◌+◌, ◌≡◌, List, cond, ltb, eqb}
+use Rattle.std.specs.Prelude.{ℕ, ◌+◌, ◌≡◌, List, cond, ltb, eqb, Some, None, Ok, Err}
+use Rattle.std.specs.declared.option.Option.{Option}
+use Rattle.std.specs.declared.result.Result.{Result}
 use Rattle.lists.specs.Lists.{Found, found, nothing}
 use Rattle.bincode.specs.Read.{Read, value, refuse, bind, whole}
 use Rattle.bincode.specs.Outcome.{Outcome, done, refused}
 use Rattle.bincode.specs.Numbers.{read_num}
+use Rattle.bincode.specs.Rows.{row_number}
 use Rattle.bincode.specs.Sizes.{Sizes}
+use Rattle.bincode.specs.declared.Refusal.{Refusal}
 use Rattle.fault_log.specs.declared.FaultKind.{FaultKind}
 use Rattle.fault_log.specs.declared.FaultKind.TheVariants.{UnexpectedDhbMessageEra, InvalidKeyGenMessageSignature, UnexpectedKeyGenMessage, TooManyKeyGenMessages}
 use Rattle.vote_counter.specs.VoteCounter as counter
@@ -15,8 +19,6 @@ use Rattle.message.specs.Message.{MessageContent, key_gen, signed_vote, read_mes
 use Rattle.message_store.specs.MessageStore.{pushed}
 use Rattle.dynamic_honey_badger.specs.State.{StateOf, era_of, nodes_in, with_counter, with_key_gen, with_store, is_validator, valid_signature, state_of}
 use Rattle.dynamic_honey_badger.specs.declared.DynamicHoneyBadger.{DynamicHoneyBadger}
-use Rattle.dynamic_honey_badger.specs.declared.Handling.{Handling}
-use Rattle.dynamic_honey_badger.specs.declared.Handling.TheVariants as handling
 use Rattle.dynamic_honey_badger.specs.declared.Handled.{Handled}
 
 -- what a message does: nothing to tell, a fault of the sender, or a refusal
@@ -106,14 +108,14 @@ unfoldable pub returned : Sizes → StateOf → List ℕ → HandledOf
 returned z s bytes = returned_read z s (whole (read_due_item z bytes) bytes)
 
 -- the answer as code gives it
-abbrev pub said_handling : Handling → MessageEffect
-said_handling handling.Quiet = quiet
-said_handling (handling.Faulty k) = fault k
-said_handling (handling.Refused n) = refusal n
+abbrev pub said_handling : Result (Option FaultKind) Refusal → MessageEffect
+said_handling (Ok None) = quiet
+said_handling (Ok (Some k)) = fault k
+said_handling (Err r) = refusal (row_number r)
 
 abbrev pub handled_of : Handled → HandledOf
 handled_of r = handled_as (state_of r.state) (said_handling r.outcome)
 
 -- a refusal hands back the very state that was given, places that do not count included
 abbrev pub MessageRefusedKeeps : Handled → DynamicHoneyBadger → Type 0
-MessageRefusedKeeps r s = (n : ℕ) → r.outcome ≡ handling.Refused n → r.state ≡ s
+MessageRefusedKeeps r s = (n : Refusal) → r.outcome ≡ Err n → r.state ≡ s

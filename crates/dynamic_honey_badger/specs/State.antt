@@ -1,14 +1,16 @@
 -- The state of a node: what it holds, how it starts, and what a new era does to it.
-use Rattle.std.specs.Prelude.{ℕ, ◌≡◌, List, [], ◌∷◌, length, Bool, true, false, cond, ◌||◌}
-use Rattle.lists.specs.Lists.{Found, found, nothing}
+use Rattle.std.specs.Prelude.{ℕ, ◌≡◌, List, [], ◌∷◌, length, Bool, true, false, cond, ◌||◌, None}
+use Rattle.std.specs.declared.option.Option.{Option}
+use Rattle.std.specs.declared.result.Result.{Result}
+use Rattle.lists.specs.Lists.{Found, found, nothing, option_as_found}
+use Rattle.bincode.specs.Answer.{outcome_as_said}
+use Rattle.bincode.specs.declared.Refusal.{Refusal}
 use Rattle.bincode.specs.Outcome.{Outcome, done, refused}
 use Rattle.bincode.specs.Sizes.{Sizes}
 use Rattle.pub_key_map.specs.declared.Node.{Node}
 use Rattle.pub_key_map.specs.declared.PubKeyMap.{PubKeyMap}
-use Rattle.pub_key_map.specs.PubKeyMap.{map_held}
 use Rattle.network_info.specs.NetworkInfo.{is_member, key_of}
 use Rattle.params.specs.declared.Params.{Params}
-use Rattle.params.specs.Params.{no_params}
 use Rattle.change.specs.Change.{node_change, encryption_schedule, ChangeStateOf, none, in_progress, complete}
 use Rattle.vote_counter.specs.VoteCounter.{CounterOf, new_counter, counter_of, new_held, is_key}
 use Rattle.key_gen_state.specs.KeyGenState as running
@@ -18,11 +20,9 @@ use Rattle.due.specs.declared.DueKind.TheVariants.{Part}
 use Rattle.due.specs.declared.DueItem.{DueItem}
 use Rattle.filled.specs.Numbers.{DueIn, due_places}
 use Rattle.join_plan.specs.JoinPlan.{PlanOf}
-use Rattle.joining.specs.declared.StartOutcome.TheVariants as start
-use Rattle.joining.specs.Starting.{StartOf, start_checked, join_checked, said_start}
+use Rattle.joining.specs.Starting.{StartOf, start_checked, join_checked}
 use Rattle.dynamic_honey_badger.specs.declared.DynamicHoneyBadger.{DynamicHoneyBadger}
 use Rattle.dynamic_honey_badger.specs.declared.ReportStamp.{ReportStamp}
-use Rattle.dynamic_honey_badger.specs.declared.Started.{Started}
 use Rattle.dynamic_honey_badger.specs.declared.JoinStarted.{JoinStarted}
 
 -- 02, CR 1: epoch and era of a report, as the report has them
@@ -158,8 +158,11 @@ join_due (done j) = j.due
 join_due (refused n) = []
 
 -- as code holds it
-abbrev pub stamp_held : ReportStamp → Found Stamp
-stamp_held r = cond r.given (found (record { epoch = r.epoch; era = r.era })) nothing
+abbrev pub stamp_of : ReportStamp → Stamp
+stamp_of r = record { epoch = r.epoch; era = r.era }
+
+abbrev pub stamp_held : Option ReportStamp → Found Stamp
+stamp_held r = option_as_found stamp_of r
 
 abbrev pub state_of : DynamicHoneyBadger → StateOf
 state_of d =
@@ -171,40 +174,21 @@ state_of d =
       last = stamp_held d.last;
     }
 
-abbrev pub started_of : Started → Outcome StateOf
-started_of r = said_start r.outcome (state_of r.state)
+abbrev pub started_of : Result DynamicHoneyBadger Refusal → Outcome StateOf
+started_of r = outcome_as_said state_of r
 
-abbrev pub joined_of : JoinStarted → Outcome JoinAnswer
-joined_of r = said_start r.outcome (record { state = state_of r.state; due = r.due })
+abbrev pub join_answer_of : JoinStarted → JoinAnswer
+join_answer_of r = record { state = state_of r.state; due = r.due }
 
--- nothing was reported
-abbrev pub no_stamp : ReportStamp
-no_stamp = record { given = false; epoch = 0; era = 0 }
+abbrev pub joined_of : Result JoinStarted Refusal → Outcome JoinAnswer
+joined_of r = outcome_as_said join_answer_of r
 
 -- the struct of a state that is opened
 abbrev pub opened_held : ℕ → ℕ → ℕ → PubKeyMap → Params → DynamicHoneyBadger
-opened_held id key era m p = record { params = p; vote_counter = new_held id key m era; key_gen_state = running.no_key_gen; store = no_store; last = no_stamp }
+opened_held id key era m p = record { params = p; vote_counter = new_held id key m era; key_gen_state = running.no_key_gen; store = no_store; last = None }
 
--- what stands beside a refused start: own id and key as lent, era 0, the empty map, the empty parameters, no votes, no key generation, nothing stored, nothing
--- reported; and no due item
-abbrev pub not_opened : ℕ → ℕ → DynamicHoneyBadger
-not_opened id key = opened_held id key 0 (map_held []) no_params
-
-abbrev pub not_started : ℕ → ℕ → ℕ → Started
-not_started id key n = record { outcome = start.Refused n; state = not_opened id key }
-
-abbrev pub StartRefusedEmpty : Started → ℕ → ℕ → Type 0
-StartRefusedEmpty r id key = (n : ℕ) → r.outcome ≡ start.Refused n → r ≡ not_started id key n
-
-abbrev pub not_joined : ℕ → ℕ → ℕ → JoinStarted
-not_joined id key n = record { outcome = start.Refused n; state = not_opened id key; due = 0 }
-
-abbrev pub JoinRefusedEmpty : JoinStarted → ℕ → ℕ → Type 0
-JoinRefusedEmpty r id key = (n : ℕ) → r.outcome ≡ start.Refused n → r ≡ not_joined id key n
-
--- a joining with lent lists of due items: what it answers, and what the lists hold at the end
-abbrev pub JoinedLent : Sizes → ℕ → ℕ → List ℕ → JoinStarted → List ℕ → List ℕ → List ℕ → List ℕ → List ℕ → List ℕ → Type 0
+-- a joining with lent lists of due items: what it answers, and what the lists hold at the end; a refused one writes nothing
+abbrev pub JoinedLent : Sizes → ℕ → ℕ → List ℕ → Result JoinStarted Refusal → List ℕ → List ℕ → List ℕ → List ℕ → List ℕ → List ℕ → Type 0
 JoinedLent z id key plan r kinds kinds' indices indices' eras eras' =
     (joined_of r ≡ join_answer (joined z (due_places kinds indices eras) id key plan))
-    × JoinRefusedEmpty r id key
     × DueIn (join_due (joined z (due_places kinds indices eras) id key plan)) kinds kinds' indices indices' eras eras'

@@ -2,150 +2,100 @@
 #![tactic(auto)]
 
 ghost use Rattle.std.specs.Prelude.{◌≡◌, cond, length};
-ghost use Rattle.lists.specs.Lists.{found, nothing, at_place};
+ghost use Rattle.lists.specs.Lists.{found, nothing, at_place, option_as_found};
 ghost use Rattle.bincode.specs.Sizes.{base};
 ghost use Rattle.pub_key_map.specs.PubKeyMap.{nodes_of};
 ghost use Rattle.change.specs.Change.{state_of as progress_of};
 ghost use Rattle.network_info.specs.NetworkInfo.{key_of};
-ghost use Rattle.board.specs.Board.{said_standing, NoStandingEmpty};
+ghost use Rattle.votes.specs.Votes.{signed_of};
+ghost use Rattle.board.specs.Board.{said_standing};
 ghost use Rattle.vote_counter.specs.VoteCounter.{is_key, pending_votes};
-ghost use Rattle.vote_counter.specs.Answers.{said_pending, NonePendingEmpty};
 ghost use Rattle.key_gen_message.specs.KeyGenMessage as key_gen;
 ghost use Rattle.key_gen_state.specs.KeyGenState as running;
 ghost use Rattle.message.specs.Message.{content_of};
-ghost use Rattle.message_store.specs.MessageStore.{said_stored, NoneStoredEmpty};
 ghost use Rattle.filled.specs.Numbers.{DueIn};
-ghost use Rattle.joining.specs.declared.StartOutcome.TheVariants.{Accepted};
 ghost use Rattle.dynamic_honey_badger.specs.State.{state_of, in_progress_map, is_validator, candidate_nodes, valid_under, part_due, opened_held};
-ghost use Rattle.dynamic_honey_badger.specs.State.{not_opened, started, started_of, StartRefusedEmpty, joined_by, numbered, JoinedLent};
-ghost use Rattle.dynamic_honey_badger.specs.OwnVotes.{voted_of, was_cast, NotCastKeeps, vote_for_bytes, vote_to_add, vote_to_remove};
+ghost use Rattle.dynamic_honey_badger.specs.State.{started, started_of, joined_by, numbered, join_answer_of, JoinedLent};
+ghost use Rattle.dynamic_honey_badger.specs.OwnVotes.{voted_of, NotCastKeeps, vote_for_bytes, vote_to_add, vote_to_remove};
 ghost use Rattle.dynamic_honey_badger.specs.Received.{handled_of, MessageRefusedKeeps, received, message_era};
-ghost use Rattle.dynamic_honey_badger.specs.Parts.{WantedFor, signed_as, CastFor, UncastKeeps, added_as, key_message, JudgedKey, JudgedRead};
+ghost use Rattle.dynamic_honey_badger.specs.Parts.{WantedFor, signed_as, CastFor, UncastKeeps, added_as, key_message, JudgedKey, JudgedContent, JudgedRead};
 ghost use Rattle.dynamic_honey_badger.specs.Asked.{next_epoch, epoch_in, said_next, some_by, should_propose, last_report, said_last, board_at};
 
-use bincode::Step;
+use bincode::Refusal;
 use board::Standing;
 use change::{Change, ChangeKind, ChangeState, Progress};
 use due::{DueItem, DueKind};
 use fault_log::FaultKind;
-use joining::StartOutcome;
 use key_gen::KeyGen;
 use key_gen_message::SignedKeyGenMsg;
 use key_gen_state::KeyGenState;
-use message::{Message, MessageKind, ReadMessage};
-use message_store::{MessageStore, StoredMessage};
-use network_info::NodeKey;
+use message::{Message, MessageKind};
+use message_store::MessageStore;
 use params::Params;
 use pub_key_map::{Node, PubKeyMap};
-use vote_counter::{PendingVote, SignOutcome, VoteCounter, VoteOutcome};
+use vote_counter::{VoteCounter, VoteOutcome};
 use votes::SignedVote;
 
-// Whether there was a report, and the epoch and era that the last one has; without one both are 0.
+// The epoch and the era that a report has.
 #[derive(Clone, Copy)]
 pub struct ReportStamp {
-    pub given: bool,
     pub epoch: u64,
     pub era: u64,
 }
 
-// Own id and key, map, era and votes are the counter's.
+// Own id and key, map, era and votes are the counter's; the stamp is that of the last report, if there was one.
 #[derive(Clone, Copy)]
 pub struct DynamicHoneyBadger {
     pub params: Params,
     pub vote_counter: VoteCounter,
     pub key_gen_state: KeyGenState,
     pub store: MessageStore,
-    pub last: ReportStamp,
+    pub last: Option<ReportStamp>,
 }
 
-// A node that starts, or a refusal; the state beside it is then the empty one.
-#[derive(Clone, Copy)]
-pub struct Started {
-    pub outcome: StartOutcome,
-    pub state: DynamicHoneyBadger,
-}
-
-// A node that joins, and how many due items stand in the lent lists, or a refusal; the state beside it is then the empty one, and there is no item.
+// A node that joins, and how many due items stand in the lent lists.
 #[derive(Clone, Copy)]
 pub struct JoinStarted {
-    pub outcome: StartOutcome,
     pub state: DynamicHoneyBadger,
     pub due: usize,
 }
 
-// An own vote was cast, it did nothing, or it was refused.
-#[derive(Clone, Copy)]
-pub enum VoteDone {
-    Cast,
-    Nothing,
-    Refused(u8),
-}
-
-// The state after an own vote; the vote to broadcast stands beside it. Where none was cast it is empty, and the state is the one given.
+// The state after an own vote, and the vote to broadcast, that none was cast, or a refusal; where none was cast the state is the one given.
 #[derive(Clone, Copy)]
 pub struct Voted {
     pub state: DynamicHoneyBadger,
-    pub outcome: VoteDone,
-    pub vote: SignedVote,
+    pub outcome: Result<Option<SignedVote>, Refusal>,
 }
 
-// What a message did: nothing to tell, a fault of its sender, or a refusal.
-#[derive(Clone, Copy)]
-pub enum Handling {
-    Quiet,
-    Faulty(FaultKind),
-    Refused(u8),
-}
-
+// The state after a message, and what the message did: nothing to tell, a fault of its sender, or a refusal.
 #[derive(Clone, Copy)]
 pub struct Handled {
     pub state: DynamicHoneyBadger,
-    pub outcome: Handling,
+    pub outcome: Result<Option<FaultKind>, Refusal>,
 }
 
-// What an own vote is to be for; where none is to be cast, the change beside it is empty.
-#[derive(Clone, Copy)]
-struct Wanted {
-    outcome: VoteDone,
-    change: Change,
-}
-
-// The vote counter after an own vote, and the vote. Where none was cast it is empty, and the counter is the one given.
+// The vote counter after an own vote, and the vote. Where none was cast the counter is the one given.
 #[derive(Clone, Copy)]
 struct CastVote {
     counter: VoteCounter,
-    outcome: VoteDone,
-    vote: SignedVote,
+    outcome: Result<Option<SignedVote>, Refusal>,
 }
 
 // What a message changes: nothing, the pending votes, its sender's count, or that and the store.
 #[derive(Clone, Copy)]
 enum Task {
     Nothing,
-    Vote,
+    Vote(SignedVote),
     Count,
-    Store,
+    Store(SignedKeyGenMsg),
 }
 
 // What a message is to do, the outcome of all tasks but a vote, and key generation with the sender counted.
 #[derive(Clone, Copy)]
 struct Judged {
     task: Task,
-    outcome: Handling,
+    outcome: Result<Option<FaultKind>, Refusal>,
     counted: KeyGenState,
-}
-
-#[derive(Clone, Copy)]
-pub enum NextEpoch {
-    Epoch(u64),
-    Refused(u8),
-}
-
-// Epoch and era of the last report, or none: none was made since the start or the joining.
-#[derive(Clone, Copy)]
-pub enum LastReport {
-    Report(u64, u64),
-    None,
 }
 
 // Whether a signature is under the id's current or candidate key.
@@ -167,20 +117,14 @@ pub fn verify_under(
 ) -> bool
     ensures { result ≡ valid_under (nodes_of pub_keys) (cond running (found (nodes_of candidate)) nothing) id sig }
 {
-    if is_key(pub_keys, id, sig) {
-        return true;
-    }
-    if running {
-        return is_key(candidate, id, sig);
-    }
-    false
+    is_key(pub_keys, id, sig) || (running && is_key(candidate, id, sig))
 }
 
 // Whether a signature is under the id's key of a map.
 pub fn is_key(map: PubKeyMap, id: u32, sig: u64) -> bool
     ensures { result ≡ is_key sig (key_of (nodes_of map) id) }
 {
-    let NodeKey::Key(key) = network_info::node_key(map, id) else {
+    let Some(key) = network_info::node_key(map, id) else {
         return false;
     };
     key == sig
@@ -239,122 +183,85 @@ fn due_part(
     0
 }
 
-// Whether a vote is cast.
-fn is_cast(outcome: VoteDone) -> bool
-    ensures { result ≡ was_cast outcome }
-{
-    match outcome {
-        VoteDone::Cast => true,
-        VoteDone::Nothing => false,
-        VoteDone::Refused(_) => false,
-    }
-}
-
 // What signing a vote says of casting it.
-fn signed_as(outcome: SignOutcome) -> VoteDone
+fn signed_as(outcome: Result<SignedVote, Refusal>) -> Result<Option<SignedVote>, Refusal>
     ensures { result ≡ signed_as outcome }
 {
-    match outcome {
-        SignOutcome::Signed => VoteDone::Cast,
-        SignOutcome::Refused(n) => VoteDone::Refused(n),
-    }
-}
-
-// No vote is to be cast.
-fn no_change(outcome: VoteDone) -> Wanted
-    ensures { result.outcome ≡ outcome }
-{
-    Wanted {
-        outcome,
-        change: Change::node_change(PubKeyMap::empty()),
-    }
+    Ok(Some(outcome?))
 }
 
 // A change that comes as bytes: rows 2 and 3 first; a non-validator's does nothing.
-fn wanted_from(map: PubKeyMap, our_id: u32, bytes: &[u8]) -> Wanted
+fn wanted_from(map: PubKeyMap, our_id: u32, bytes: &[u8]) -> Result<Option<Change>, Refusal>
     ensures { WantedFor base (nodes_of map) our_id (λ s. vote_for_bytes base s bytes.now) result }
 {
-    let r = change::read_whole_change(bytes);
-    let step = r.step;
-    let change = r.change;
-    let Step::Next(_) = step else {
-        return no_change(VoteDone::Refused(step.number()));
-    };
+    let (change, _) = change::read_whole_change(bytes)?;
     if !network_info::is_member(map, our_id) {
-        return no_change(VoteDone::Nothing);
+        return Ok(None);
     }
-    Wanted {
-        outcome: VoteDone::Cast,
-        change,
-    }
+    Ok(Some(change))
 }
 
 // The map with a node, or with another key of one: key 0 is 2, whoever calls; then 13.
-fn wanted_with(map: PubKeyMap, our_id: u32, id: u32, key: u64) -> Wanted
+fn wanted_with(map: PubKeyMap, our_id: u32, id: u32, key: u64) -> Result<Option<Change>, Refusal>
     ensures { WantedFor base (nodes_of map) our_id (λ s. vote_to_add base s id key) result }
 {
     if key == 0 {
-        return no_change(VoteDone::Refused(2));
+        return Err(Refusal::Malformed);
     }
     if network_info::is_member(map, our_id) {
         if node_change::is_full_for(map, id) {
-            return no_change(VoteDone::Refused(13));
+            return Err(Refusal::MapFull);
         }
         let next = node_change::with_node(map, Node::new(id, key));
-        return Wanted {
-            outcome: VoteDone::Cast,
-            change: Change::node_change(next),
-        };
+        return Ok(Some(Change::node_change(next)));
     }
-    no_change(VoteDone::Nothing)
+    Ok(None)
 }
 
 // The map without a node; without such a node it is the current map.
-fn wanted_without(map: PubKeyMap, our_id: u32, id: u32) -> Wanted
+fn wanted_without(map: PubKeyMap, our_id: u32, id: u32) -> Result<Option<Change>, Refusal>
     ensures { WantedFor base (nodes_of map) our_id (λ s. vote_to_remove base s id) result }
 {
     if network_info::is_member(map, our_id) {
         let next = node_change::without_node(map, id);
-        return Wanted {
-            outcome: VoteDone::Cast,
-            change: Change::node_change(next),
-        };
+        return Ok(Some(Change::node_change(next)));
     }
-    no_change(VoteDone::Nothing)
+    Ok(None)
 }
 
 // Casts an own vote on the counter alone: the rest of the state is large, and stays where it is.
-fn cast(counter: VoteCounter, w: Wanted) -> CastVote
-    ensures { CastFor base counter w result × UncastKeeps result counter }
+fn cast(counter: VoteCounter, wanted: Result<Option<Change>, Refusal>) -> CastVote
+    ensures { CastFor base counter wanted result × UncastKeeps result counter }
 {
-    let wanted = w.outcome;
-    let change = w.change;
-    if is_cast(wanted) {
-        let r = counter.sign_vote_for(change);
-        let signed = r.outcome;
-        let next = r.counter;
-        let vote = r.vote;
-        return CastVote {
-            counter: next,
-            outcome: signed_as(signed),
-            vote,
-        };
-    }
-    CastVote {
-        counter,
-        outcome: wanted,
-        vote: SignedVote::empty(),
+    match wanted {
+        Ok(Some(change)) => {
+            let r = counter.sign_vote_for(change);
+            let signed = r.outcome;
+            let next = r.counter;
+            CastVote {
+                counter: next,
+                outcome: signed_as(signed),
+            }
+        }
+        Ok(None) => CastVote {
+            counter,
+            outcome: Ok(None),
+        },
+        Err(n) => CastVote {
+            counter,
+            outcome: Err(n),
+        },
     }
 }
 
 // What adding a received vote says of its message.
-fn added_as(outcome: VoteOutcome) -> Handling
+fn added_as(outcome: VoteOutcome) -> Result<Option<FaultKind>, Refusal>
     ensures { result ≡ added_as outcome }
 {
     match outcome {
-        VoteOutcome::Stored => Handling::Quiet,
-        VoteOutcome::Nothing => Handling::Quiet,
-        VoteOutcome::Faulty(k) => Handling::Faulty(k),
+        VoteOutcome::Stored => Ok(None),
+        VoteOutcome::Nothing => Ok(None),
+        VoteOutcome::Faulty(k) => Ok(Some(k)),
     }
 }
 
@@ -372,7 +279,11 @@ fn key_message(sender: u32, m: Message) -> SignedKeyGenMsg
 }
 
 // What a message is judged to do.
-fn judged_as(task: Task, outcome: Handling, counted: KeyGenState) -> Judged
+fn judged_as(
+    task: Task,
+    outcome: Result<Option<FaultKind>, Refusal>,
+    counted: KeyGenState,
+) -> Judged
     ensures { result ≡ record { task = task; outcome = outcome; counted = counted } }
 {
     Judged {
@@ -387,11 +298,11 @@ fn judge_key(m: Message, sender: u32, map: PubKeyMap, state: KeyGenState, held: 
     ensures { JudgedKey base (nodes_of map) (running.state_of state) held sender m result }
 {
     if !verify_signature(map, state, sender, m.sig) {
-        let fault = Handling::Faulty(FaultKind::InvalidKeyGenMessageSignature);
+        let fault = Ok(Some(FaultKind::InvalidKeyGenMessageSignature));
         return judged_as(Task::Nothing, fault, state);
     }
     if !state.running {
-        let fault = Handling::Faulty(FaultKind::UnexpectedKeyGenMessage);
+        let fault = Ok(Some(FaultKind::UnexpectedKeyGenMessage));
         return judged_as(Task::Nothing, fault, state);
     }
     let key_gen = state.key_gen;
@@ -399,43 +310,55 @@ fn judge_key(m: Message, sender: u32, map: PubKeyMap, state: KeyGenState, held: 
     let c = state.count_messages(map, sender);
     let counted = c.state;
     if candidate.len() + 1 < c.count as usize {
-        let fault = Handling::Faulty(FaultKind::TooManyKeyGenMessages);
+        let fault = Ok(Some(FaultKind::TooManyKeyGenMessages));
         return judged_as(Task::Count, fault, counted);
     }
     if held < MessageStore::LIMIT {
-        return judged_as(Task::Store, Handling::Quiet, counted);
+        return judged_as(Task::Store(key_message(sender, m)), Ok(None), counted);
     }
-    judged_as(Task::Nothing, Handling::Refused(12), state)
+    judged_as(Task::Nothing, Err(Refusal::StoreFull), state)
 }
 
-// A message, if it was read, by small parts of the state, since the whole is large: its era first.
-fn judge(
-    r: ReadMessage,
+// What a message is judged to do, its era first.
+fn judge_content(
+    m: Message,
     sender: u32,
     era: u64,
     map: PubKeyMap,
     state: KeyGenState,
     held: usize,
 ) -> Judged
-    ensures { JudgedRead base era (nodes_of map) (running.state_of state) held sender r result }
+    ensures { JudgedContent base era (nodes_of map) (running.state_of state) held sender (content_of m) result }
 {
-    let step = r.step;
-    let m = r.message;
-    let Step::Next(_) = step else {
-        return judged_as(Task::Nothing, Handling::Refused(step.number()), state);
-    };
     let sent = message_era(m);
     if era < sent {
-        let fault = Handling::Faulty(FaultKind::UnexpectedDhbMessageEra);
+        let fault = Ok(Some(FaultKind::UnexpectedDhbMessageEra));
         return judged_as(Task::Nothing, fault, state);
     }
     if sent < era {
-        return judged_as(Task::Nothing, Handling::Quiet, state);
+        return judged_as(Task::Nothing, Ok(None), state);
     }
     let kind = m.kind;
     match kind {
         MessageKind::KeyGen => judge_key(m, sender, map, state, held),
-        MessageKind::SignedVote => judged_as(Task::Vote, Handling::Quiet, state),
+        MessageKind::SignedVote => judged_as(Task::Vote(m.vote), Ok(None), state),
+    }
+}
+
+// The same of a message as bytes, by small parts of the state, since the whole is large: rows 2 and 3 first.
+fn judge(
+    bytes: &[u8],
+    sender: u32,
+    era: u64,
+    map: PubKeyMap,
+    state: KeyGenState,
+    held: usize,
+) -> Judged
+    ensures { JudgedRead base era (nodes_of map) (running.state_of state) held sender bytes.now result }
+{
+    match message::read_whole_message(bytes) {
+        Ok((m, _)) => judge_content(m, sender, era, map, state, held),
+        Err(n) => judged_as(Task::Nothing, Err(n), state),
     }
 }
 
@@ -449,39 +372,22 @@ impl DynamicHoneyBadger {
             vote_counter: VoteCounter::new(our_id, secret_key, pub_keys, era),
             key_gen_state: KeyGenState::empty(),
             store: MessageStore::empty(),
-            last: ReportStamp {
-                given: false,
-                epoch: 0,
-                era: 0,
-            },
+            last: None,
         }
-    }
-
-    // What stands beside a refused start: own id and key as lent, era 0, no nodes, empty parameters.
-    fn not_opened(our_id: u32, secret_key: u64) -> Self
-        ensures { result ≡ not_opened our_id secret_key }
-    {
-        DynamicHoneyBadger::open(our_id, secret_key, 0, PubKeyMap::empty(), Params::empty())
     }
 
     // Starts a node from a map and parameters.
-    pub fn new(our_id: u32, secret_key: u64, era: u64, map: &[u8], params: &[u8]) -> Started
-        ensures { (started_of result ≡ started base our_id secret_key era map.now params.now) × StartRefusedEmpty result our_id secret_key }
+    pub fn new(
+        our_id: u32,
+        secret_key: u64,
+        era: u64,
+        map: &[u8],
+        params: &[u8],
+    ) -> Result<DynamicHoneyBadger, Refusal>
+        ensures { started_of result ≡ started base our_id secret_key era map.now params.now }
     {
-        let c = joining::check_starting(secret_key, map, params);
-        let pub_keys = c.pub_keys;
-        let read = c.params;
-        let outcome = c.outcome;
-        match outcome {
-            StartOutcome::Accepted => Started {
-                outcome,
-                state: DynamicHoneyBadger::open(our_id, secret_key, era, pub_keys, read),
-            },
-            StartOutcome::Refused(_) => Started {
-                outcome,
-                state: DynamicHoneyBadger::not_opened(our_id, secret_key),
-            },
-        }
+        let (pub_keys, read) = joining::check_starting(secret_key, map, params)?;
+        Ok(DynamicHoneyBadger::open(our_id, secret_key, era, pub_keys, read))
     }
 
     // Starts a node from a join plan: a fresh key generation where a map is in progress, its due items in the lent lists. Row 1 where one is too short.
@@ -492,34 +398,18 @@ impl DynamicHoneyBadger {
         due_kinds: &mut [u8],
         due_indices: &mut [u64],
         due_eras: &mut [u64],
-    ) -> JoinStarted
+    ) -> Result<JoinStarted, Refusal>
         ensures { JoinedLent base our_id secret_key plan.now result
             due_kinds.old due_kinds.new due_indices.old due_indices.new due_eras.old due_eras.new }
     {
         let shorter = filled::shorter_of(due_kinds.len(), due_indices.len());
         let due_places = filled::shorter_of(shorter, due_eras.len());
-        let c = joining::check_joining(due_places, our_id, secret_key, plan);
-        let read = c.plan;
+        let read = joining::check_joining(due_places, our_id, secret_key, plan)?;
         let pub_keys = read.pub_keys;
         let params = read.params;
         let change = read.change;
-        let outcome = c.outcome;
-        match outcome {
-            StartOutcome::Accepted => {
-                let state = DynamicHoneyBadger::open(
-                    our_id, secret_key, read.era, pub_keys, params,
-                );
-                state.join(our_id, read.era, change, due_kinds, due_indices, due_eras)
-            }
-            StartOutcome::Refused(_) => {
-                let state = DynamicHoneyBadger::not_opened(our_id, secret_key);
-                JoinStarted {
-                    outcome,
-                    state,
-                    due: 0,
-                }
-            }
-        }
+        let state = DynamicHoneyBadger::open(our_id, secret_key, read.era, pub_keys, params);
+        Ok(state.join(our_id, read.era, change, due_kinds, due_indices, due_eras))
     }
 
     // What the plan's change asks of a node that joins.
@@ -532,7 +422,7 @@ impl DynamicHoneyBadger {
         indices: &mut [u64],
         eras: &mut [u64],
     ) -> JoinStarted
-        ensures { (result.outcome ≡ Accepted) × (record { state = state_of result.state; due = result.due } ≡ numbered (joined_by base our_id era (progress_of state) (state_of self)))
+        ensures { (join_answer_of result ≡ numbered (joined_by base our_id era (progress_of state) (state_of self)))
             × DueIn (joined_by base our_id era (progress_of state) (state_of self)).due
             kinds.old kinds.new indices.old indices.new eras.old eras.new }
     {
@@ -542,13 +432,11 @@ impl DynamicHoneyBadger {
             let counter = self.vote_counter;
             self.key_gen_state = KeyGenState::new(KeyGen::new(counter.our_id, map));
             return JoinStarted {
-                outcome: StartOutcome::Accepted,
                 state: self,
                 due: due_part(map, our_id, era, kinds, indices, eras),
             };
         }
         JoinStarted {
-            outcome: StartOutcome::Accepted,
             state: self,
             due: 0,
         }
@@ -572,12 +460,10 @@ impl DynamicHoneyBadger {
         let r = cast(counter, wanted_from(map, counter.our_id, change));
         let next = r.counter;
         let outcome = r.outcome;
-        let vote = r.vote;
         self.vote_counter = next;
         Voted {
             state: self,
             outcome,
-            vote,
         }
     }
 
@@ -590,12 +476,10 @@ impl DynamicHoneyBadger {
         let r = cast(counter, wanted_with(map, counter.our_id, id, key));
         let next = r.counter;
         let outcome = r.outcome;
-        let vote = r.vote;
         self.vote_counter = next;
         Voted {
             state: self,
             outcome,
-            vote,
         }
     }
 
@@ -608,12 +492,10 @@ impl DynamicHoneyBadger {
         let r = cast(counter, wanted_without(map, counter.our_id, id));
         let next = r.counter;
         let outcome = r.outcome;
-        let vote = r.vote;
         self.vote_counter = next;
         Voted {
             state: self,
             outcome,
-            vote,
         }
     }
 
@@ -621,35 +503,35 @@ impl DynamicHoneyBadger {
     pub fn handle_message(mut self, sender: u32, message: &[u8]) -> Handled
         ensures { (handled_of result ≡ received base (state_of self) sender message.now) × MessageRefusedKeeps result self }
     {
-        let r = message::read_whole_message(message);
-        let m = r.message;
         let counter = self.vote_counter;
         let state = self.key_gen_state;
         let store = self.store;
-        let j = judge(r, sender, counter.era, counter.pub_keys, state, store.count);
+        let j = judge(
+            message,
+            sender,
+            counter.era,
+            counter.pub_keys,
+            state,
+            store.count,
+        );
         let task = j.task;
         let mut outcome = j.outcome;
         match task {
             Task::Nothing => {}
-            Task::Vote => {
+            Task::Vote(x) => {
                 let counter = self.vote_counter;
-                let a = counter.add_pending_vote(m.vote);
-                let next = a.counter;
-                let added = a.outcome;
-                self.vote_counter = next;
-                outcome = added_as(added);
+                let a = counter.add_pending_vote(x);
+                self.vote_counter = a.counter;
+                outcome = added_as(a.outcome);
             }
             Task::Count => {
-                let counted = j.counted;
-                self.key_gen_state = counted;
+                self.key_gen_state = j.counted;
             }
-            Task::Store => {
-                let counted = j.counted;
-                self.key_gen_state = counted;
+            Task::Store(m) => {
+                self.key_gen_state = j.counted;
                 let store = self.store;
-                let p = store.push(key_message(sender, m));
-                let next = p.store;
-                self.store = next;
+                let p = store.push(m);
+                self.store = p.store;
             }
         }
         Handled {
@@ -659,24 +541,24 @@ impl DynamicHoneyBadger {
     }
 
     // The stored message at a place, 0 first, in order of arrival.
-    pub fn stored_message(self, place: usize) -> StoredMessage
-        ensures { (said_stored result ≡ at_place place (state_of self).store) × NoneStoredEmpty result }
+    pub fn stored_message(self, place: usize) -> Option<SignedKeyGenMsg>
+        ensures { option_as_found key_gen.signed_of result ≡ at_place place (state_of self).store }
     {
         let store = self.store;
         store.at(place)
     }
 
     // The pending vote at a place, 0 first, of those newer than their voter's committed vote.
-    pub fn pending_vote(self, place: usize) -> PendingVote
-        ensures { (said_pending result ≡ at_place place (pending_votes (state_of self).counter)) × NonePendingEmpty result }
+    pub fn pending_vote(self, place: usize) -> Option<SignedVote>
+        ensures { option_as_found signed_of result ≡ at_place place (pending_votes (state_of self).counter) }
     {
         let counter = self.vote_counter;
         counter.pending_vote(place)
     }
 
     // The row of the board at a place, 0 first: a change and how many voters are for it.
-    pub fn board_row(self, place: usize) -> Standing
-        ensures { (said_standing result ≡ board_at (state_of self) place) × NoStandingEmpty result }
+    pub fn board_row(self, place: usize) -> Option<Standing>
+        ensures { option_as_found said_standing result ≡ board_at (state_of self) place }
     {
         let counter = self.vote_counter;
         counter.board_row(place)
@@ -688,18 +570,13 @@ impl DynamicHoneyBadger {
     {
         let counter = self.vote_counter;
         let pending = counter.pending;
-        let n = pending.len();
-        let mut place: usize = 0;
-        while place < n {
-            let p = counter.pending_vote(place);
-            let x = p.vote;
-            if !p.found {
+        for place in 0..pending.len() {
+            let Some(x) = counter.pending_vote(place) else {
                 return false;
-            }
+            };
             if x.voter == counter.our_id {
                 return true;
             }
-            place += 1;
         }
         false
     }
@@ -708,51 +585,38 @@ impl DynamicHoneyBadger {
     pub fn should_propose(self, has_input: bool, proposals: u64) -> bool
         ensures { result ≡ should_propose (state_of self) has_input proposals }
     {
-        if has_input {
-            return false;
-        }
         let counter = self.vote_counter;
-        let map = counter.pub_keys;
-        if (network_info::num_faulty(map) as u64) < proposals {
-            return true;
-        }
-        if self.has_own_vote() {
-            return true;
-        }
         let store = self.store;
-        0 < store.len()
+        let enough = network_info::num_faulty(counter.pub_keys) as u64;
+        !has_input && (enough < proposals || (self.has_own_vote() || 0 < store.len()))
     }
 
     // The epoch of the next batch; the host lends the inner epoch.
-    pub fn next_epoch(self, inner: u64) -> NextEpoch
+    pub fn next_epoch(self, inner: u64) -> Result<u64, Refusal>
         ensures { said_next result ≡ next_epoch (state_of self) inner }
     {
         let counter = self.vote_counter;
         epoch_in(counter.era, inner)
     }
 
-    // Epoch and era of the last report.
-    pub fn last_report(self) -> LastReport
+    // Epoch and era of the last report, or none: none was made since the start or the joining.
+    pub fn last_report(self) -> Option<ReportStamp>
         ensures { said_last result ≡ last_report (state_of self) }
     {
-        let last = self.last;
-        if last.given {
-            return LastReport::Report(last.epoch, last.era);
-        }
-        LastReport::None
+        self.last
     }
 }
 
 // The epoch of a batch in an era; row 5 where it is over 2^64-2.
-pub fn epoch_in(era: u64, inner: u64) -> NextEpoch
+pub fn epoch_in(era: u64, inner: u64) -> Result<u64, Refusal>
     ensures { said_next result ≡ epoch_in era inner }
 {
     let last = 18446744073709551614;
     if last < era {
-        return NextEpoch::Refused(5);
+        return Err(Refusal::LastEpoch);
     }
     if last - era < inner {
-        return NextEpoch::Refused(5);
+        return Err(Refusal::LastEpoch);
     }
-    NextEpoch::Epoch(era + inner)
+    Ok(era + inner)
 }

@@ -6,7 +6,7 @@ ghost use Rattle.bincode.specs.Sizes.{base};
 ghost use Rattle.fault_log.specs.FaultLog.{fault_number, part_fault_number, ack_fault_number, faults_of, no_fault, no_faults};
 
 // sync_key_gen.rs: what is wrong with a part.
-#[derive(Clone, Copy)]
+#[derive(Clone, Copy, PartialEq, Eq)]
 pub enum PartFault {
     RowCount,
     MultipleParts,
@@ -16,7 +16,7 @@ pub enum PartFault {
 }
 
 // sync_key_gen.rs: what is wrong with an ack.
-#[derive(Clone, Copy)]
+#[derive(Clone, Copy, PartialEq, Eq)]
 pub enum AckFault {
     ValueCount,
     MissingPart,
@@ -25,7 +25,7 @@ pub enum AckFault {
     ValueCommitment,
 }
 
-#[derive(Clone, Copy)]
+#[derive(Clone, Copy, PartialEq, Eq)]
 pub enum FaultKind {
     InvalidVoteSignature,
     InvalidCommittedVote,
@@ -87,12 +87,7 @@ impl FaultLog {
     pub fn len(self) -> usize
         ensures { (result ≡ length (faults_of self)) × (result ≤ base.faults) }
     {
-        let n = self.count;
-        if n < FaultLog::LIMIT {
-            n
-        } else {
-            FaultLog::LIMIT
-        }
+        self.count.min(FaultLog::LIMIT)
     }
 
     // One fault more; a full log has no place for it.

@@ -11,10 +11,7 @@ use due::{DueItem, DueKind};
 pub fn shorter_of(a: usize, b: usize) -> usize
     ensures { result ≡ shorter a b }
 {
-    if a < b {
-        return a;
-    }
-    b
+    a.min(b)
 }
 
 // A due item's kind as a number.

@@ -2,7 +2,7 @@
 -- Assumes nothing.
 use Prim.Native.Nat.{ℕ, ◌≤◌, ◌<◌}
 use mathlib.Core.Path.{◌≡◌, refl, sym, ap, ◌∙◌}
-use mathlib.Core.Bool.{true, cond}
+use mathlib.Core.Bool.{Bool, true, false, cond, ◌&&◌}
 use lib.Dec.{eqb}
 use lib.ListN.{length, length-append}
 use borrow.Author.Tests.{lt-ltb, le-ltb, eq-eqb, ne_eqb, eqb-true}
@@ -12,8 +12,8 @@ use Rattle.bincode.specs.Numbers.{fixed}
 use Rattle.bincode.proofs.NumberLaws.{length_bytes_of}
 use Rattle.honey_badger.specs.declared.EncryptionSchedule.{EncryptionSchedule}
 use Rattle.honey_badger.specs.declared.EncryptionSchedule.TheVariants.{Always, Never, EveryNthEpoch, TickTock}
-use Rattle.honey_badger.specs.declared.Fields.{Fields}
-use Rattle.honey_badger.specs.EncryptionSchedule.{fields_of, same_fields, same_schedule, period, row14, encrypts, use_on_epoch, schedule_bytes}
+use Rattle.honey_badger.specs.contracts.EncryptionSchedulePartialEq.TheImpl.{eq-value}
+use Rattle.honey_badger.specs.EncryptionSchedule.{Fields, fields_of, same_fields, same_schedule, period, row14, encrypts, use_on_epoch, schedule_bytes}
 
 -- how many bytes a schedule takes
 abbrev pub schedule_length : EncryptionSchedule → ℕ
@@ -75,3 +75,27 @@ module _ (x : EncryptionSchedule) (epoch : ℕ) where
   pub use_done : (period x ≡ 0 → ⊥) → period x ≤ 4294967295 → use_on_epoch x epoch ≡ done (encrypts x epoch)
   unfolding use_on_epoch row14
   use_done z h = rw (ne_eqb (period x) 0 z, le-ltb 4294967295 (period x) h)
+
+also_true : (b : Bool) → b ≡ (b && true)
+also_true true = refl
+also_true false = refl
+
+-- `==` of schedules is what the definitions call the same
+pub schedule_eq : (x y : EncryptionSchedule) → (eq-value).it x y ≡ same_schedule x y
+unfolding same_fields
+schedule_eq Always Always = refl
+schedule_eq Always Never = refl
+schedule_eq Always (EveryNthEpoch n) = refl
+schedule_eq Always (TickTock on off) = refl
+schedule_eq Never Always = refl
+schedule_eq Never Never = refl
+schedule_eq Never (EveryNthEpoch n) = refl
+schedule_eq Never (TickTock on off) = refl
+schedule_eq (EveryNthEpoch m) Always = refl
+schedule_eq (EveryNthEpoch m) Never = refl
+schedule_eq (EveryNthEpoch m) (EveryNthEpoch n) = also_true (eqb m n)
+schedule_eq (EveryNthEpoch m) (TickTock on off) = refl
+schedule_eq (TickTock a b) Always = refl
+schedule_eq (TickTock a b) Never = refl
+schedule_eq (TickTock a b) (EveryNthEpoch n) = refl
+schedule_eq (TickTock a b) (TickTock on off) = refl

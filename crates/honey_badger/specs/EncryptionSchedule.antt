@@ -6,14 +6,14 @@ use Rattle.bincode.specs.Numbers.{Edition}
 use Rattle.bincode.specs.Stands.{concat}
 use Rattle.honey_badger.specs.declared.EncryptionSchedule.{EncryptionSchedule}
 use Rattle.honey_badger.specs.declared.EncryptionSchedule.TheVariants.{Always, Never, EveryNthEpoch, TickTock}
-use Rattle.honey_badger.specs.declared.Fields.{Fields}
 use Rattle.honey_badger.specs.declared.Cycle.{Cycle}
-use Rattle.honey_badger.specs.declared.UseOnEpoch.{UseOnEpoch}
-use Rattle.honey_badger.specs.declared.UseOnEpoch.TheVariants as use-on
-use Rattle.honey_badger.specs.declared.ReadSchedule.{ReadSchedule}
-use Rattle.honey_badger.specs.declared.ReadSchedule.TheVariants as sched
 
 -- the tag in order of declaration, and the numbers behind it, 0 where there is none
+pub record Fields : Type 0 where
+  pub tag : ℕ
+  pub first : ℕ
+  pub second : ℕ
+
 abbrev pub fields_of : EncryptionSchedule → Fields
 fields_of Always = record { tag = 0; first = 0; second = 0 }
 fields_of Never = record { tag = 1; first = 0; second = 0 }
@@ -63,11 +63,6 @@ is_below p b epoch = ltb (epoch % p) b
 unfoldable pub use_on_epoch : EncryptionSchedule → ℕ → Outcome Bool
 use_on_epoch x epoch = cond (row14 x) (refused 14) (done (encrypts x epoch))
 
-abbrev pub said_use : UseOnEpoch → Outcome Bool
-said_use use-on.Yes = done true
-said_use use-on.No = done false
-said_use (use-on.Refused n) = refused n
-
 -- a u32 tag and the numbers of that case; 2 for an unknown tag
 unfoldable pub read_schedule : Edition → List ℕ → ℕ → Read EncryptionSchedule
 read_schedule e s at =
@@ -90,7 +85,3 @@ ScheduleOk Always = Unit {0}
 ScheduleOk Never = Unit {0}
 ScheduleOk (EveryNthEpoch n) = n < 256 ^ 4
 ScheduleOk (TickTock on off) = (on < 256 ^ 4) × (off < 256 ^ 4)
-
-abbrev pub said_schedule : ReadSchedule → Read EncryptionSchedule
-said_schedule (sched.Value x c) = value x c
-said_schedule (sched.Refused n) = refuse n

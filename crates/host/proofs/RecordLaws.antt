@@ -1,17 +1,19 @@
 -- The batch call by its number of places for faults, and the list of records that is filled from its answer.
 -- Assumes nothing.
-use Prim.Native.Nat.{ℕ, ◌+◌, ◌≤◌, ◌<◌, ◌-◌}
+use Prim.Native.Nat.{ℕ, ◌+◌, ◌≤◌, ◌<◌}
 use mathlib.Core.Path.{◌≡◌, refl, sym, ap, subst, ◌∙◌}
 use mathlib.Core.Bool.{Bool, true, false, cond, ◌||◌}
 use mathlib.Core.List.{List, ◌++◌, map}
 use native.Mathlib.Omega.{arith}
-use native.Mathlib.Nat.{sub-zero}
 use native.Mathlib.Numerals.{add-one}
 use lib.Dec.{ltb}
-use lib.ListN.{length, take, get_or, set, length-take}
-use lib.Seq.{take_at, take_all, take-suc, length-take-le, get_or-take}
+use lib.ListN.{length, take, get_or, set}
+use lib.Seq.{take_at, take_all, take-suc, length-take-le}
 use borrow.Author.Tests.{ltb-true, ltb-false, le-ltb, lt-ltb}
+use Rattle.std.specs.declared.result.Result.{Result}
+use Rattle.std.specs.declared.result.Result.TheVariants.{Ok, Err}
 use Rattle.bincode.specs.Read.{Read, value, refuse}
+use Rattle.bincode.specs.declared.Refusal.{Refusal}
 use Rattle.bincode.specs.Outcome.{Outcome, done, refused}
 use Rattle.bincode.specs.Sizes.{Sizes, base}
 use Rattle.internal_contrib.specs.InternalContrib.{ContribOf, read_batch}
@@ -19,14 +21,11 @@ use Rattle.filled.specs.Filled.{filled, shorter}
 use Rattle.filled.proofs.FillLaws.{length_filled, filled_none, filled_next}
 use Rattle.dynamic_honey_badger.specs.declared.DynamicHoneyBadger.{DynamicHoneyBadger}
 use Rattle.dynamic_honey_badger.specs.State.{StateOf, state_of}
-use Rattle.batch.specs.Batch.{batch_of}
-use Rattle.decision.specs.Decision.{said_recipe}
 use Rattle.process_output.specs.Refusals.{batch_row1}
 use Rattle.process_output.specs.Process.{BatchCall, ReportOf, ProcessedOf, denied, processed_contribs, processed_read, processed}
-use Rattle.process_batch.specs.declared.BatchOutcome.{BatchOutcome}
-use Rattle.process_batch.specs.declared.BatchOutcome.TheVariants as outcome
+use Rattle.process_batch.specs.declared.Report.{Report}
 use Rattle.process_batch.specs.declared.Processed.{Processed}
-use Rattle.process_batch.specs.Answer.{Summary, summed, said_batch, report_of, held_report, ProcessedAs, BatchRefusedKeeps}
+use Rattle.process_batch.specs.Answer.{Summary, summed, report_of, faults_told, ProcessedAs}
 use Rattle.process_batch.specs.Lent.{Lists, lent_call, faults_in, Filled, BatchDone}
 use Rattle.host.specs.declared.FaultRecord.{FaultRecord}
 use Rattle.host.specs.declared.Answered.{Answered}
@@ -49,7 +48,7 @@ dues kinds indices eras = record { kinds = kinds; indices = indices; eras = eras
 abbrev pub lists : List ℕ → List ℕ → DueLists → Lists
 lists ids kinds d = record { fault_ids = ids; fault_kinds = kinds; due_kinds = d.kinds; due_indices = d.indices; due_eras = d.eras }
 
--- an answer counts its report's faults; beside a refusal stands 0
+-- an answer counts its report's faults; a refusal has none
 abbrev fault_count : Outcome Summary → ℕ
 fault_count (done x) = x.faults
 fault_count (refused n) = 0
@@ -58,16 +57,12 @@ summed_faults : (a : Outcome ReportOf) → fault_count (summed a) ≡ length (fa
 summed_faults (done x) = refl
 summed_faults (refused n) = refl
 
-held_faults : (r : Processed) (s : DynamicHoneyBadger) → BatchRefusedKeeps r s → r.faults ≡ fault_count (report_of (held_report r))
-held_faults r s keeps = go r.outcome refl
-  where
-    go : (o : BatchOutcome) → r.outcome ≡ o
-        → r.faults ≡ fault_count (said_batch o (record { batch = batch_of r.batch; faults = r.faults; due = r.due; recipe = said_recipe r.has_recipe r.recipe }))
-    go outcome.Reported e = refl
-    go (outcome.Refused n) e = ap (λ (p : Processed). p.faults) (keeps n e)
+held_faults : (o : Result Report Refusal) → faults_told o ≡ fault_count (report_of o)
+held_faults (Ok r) = refl
+held_faults (Err n) = refl
 
-faults_counted : (r : Processed) (s : DynamicHoneyBadger) (x : ProcessedOf) → ProcessedAs r x → BatchRefusedKeeps r s → r.faults ≡ length (faults_in x.answer)
-faults_counted r s x told keeps = held_faults r s keeps ∙ ap fault_count told.1 ∙ summed_faults x.answer
+faults_counted : (r : Processed) (x : ProcessedOf) → ProcessedAs r x → faults_told r.outcome ≡ length (faults_in x.answer)
+faults_counted r x told = held_faults r.outcome ∙ ap fault_count told.1 ∙ summed_faults x.answer
 
 module _ (z : Sizes) (s : StateOf) (era inner : ℕ) (bytes verdicts : List ℕ) (d : DueLists) where
   abbrev call : ℕ → BatchCall
@@ -110,61 +105,56 @@ module _ (z : Sizes) (s : StateOf) (era inner : ℕ) (bytes verdicts : List ℕ)
 
   -- lent the first places of two lists, the call has as many
   first_call : (ids kinds : List ℕ) (k : ℕ) → k ≤ length ids → k ≤ length kinds
-      → processed z s (lent_call era inner bytes verdicts (lists (take (k - 0) ids) (take (k - 0) kinds) d)) ≡ processed z s (call k)
+      → processed z s (lent_call era inner bytes verdicts (lists (take k ids) (take k kinds) d)) ≡ processed z s (call k)
   first_call ids kinds k h l =
-      let i : length (take (k - 0) ids) ≡ k = rw (sub-zero k) (length-take-le k ids h) in
-      let j : length (take (k - 0) kinds) ≡ k = rw (sub-zero k) (length-take-le k kinds l) in
+      let i : length (take k ids) ≡ k = length-take-le k ids h in
+      let j : length (take k kinds) ≡ k = length-take-le k kinds l in
       let same : shorter k k ≡ k = rw (le-ltb k k (omega arith)) in
       ap (λ (m : ℕ). processed z s (call m)) ((λ q. shorter (i q) (j q)) ∙ same)
 
 -- and what was filled there is what the first places of the whole list hold
-pub first_filled : (xs old part rest : List ℕ) (k : ℕ) → k ≤ length old → part ≡ filled xs (take (k - 0) old) → take k (part ++ rest) ≡ filled xs (take k old)
-first_filled xs old part rest k h e =
-    let w : part ≡ filled xs (take k old) = e ∙ ap (λ (m : ℕ). filled xs (take m old)) (sub-zero k) in
-    take_at part rest k (ap length w ∙ length_filled xs (take k old) ∙ length-take-le k old h) ∙ w
+pub first_filled : (xs old part rest : List ℕ) (k : ℕ) → k ≤ length old → part ≡ filled xs (take k old) → take k (part ++ rest) ≡ filled xs (take k old)
+first_filled xs old part rest k h e = take_at part rest k (ap length e ∙ length_filled xs (take k old) ∙ length-take-le k old h) ∙ e
 
 -- the batch call on the first places of two lists does what it says of the whole lists
 pub first_done : (s : DynamicHoneyBadger) (era inner : ℕ) (bytes verdicts : List ℕ) (k : ℕ) (ids kinds : List ℕ) (d : DueLists) (r : Processed) (ids' kinds' rest rest' : List ℕ) (d' : DueLists)
-    → k ≤ length ids → k ≤ length kinds → BatchDone s era inner bytes verdicts (lists (take (k - 0) ids) (take (k - 0) kinds) d) r (lists ids' kinds' d')
+    → k ≤ length ids → k ≤ length kinds → BatchDone s era inner bytes verdicts (lists (take k ids) (take k kinds) d) r (lists ids' kinds' d')
     → FirstDone s era inner bytes verdicts k ids kinds d r (ids' ++ rest) (kinds' ++ rest') d'
 first_done s era inner bytes verdicts k ids kinds d r ids' kinds' rest rest' d' h l e =
-    let x = processed base (state_of s) (lent_call era inner bytes verdicts (lists (take (k - 0) ids) (take (k - 0) kinds) d)) in
+    let x = processed base (state_of s) (lent_call era inner bytes verdicts (lists (take k ids) (take k kinds) d)) in
     let same : x ≡ processed base (state_of s) (places_call era inner bytes verdicts k d) = first_call base (state_of s) era inner bytes verdicts d ids kinds k h l in
     let w : ProcessedAs r (processed base (state_of s) (places_call era inner bytes verdicts k d))
-    × Filled (answer_of s (places_call era inner bytes verdicts k d)) (lists (take (k - 0) ids) (take (k - 0) kinds) d) (lists ids' kinds' d') =
-    subst (λ (y : ProcessedOf). ProcessedAs r y × Filled y.answer (lists (take (k - 0) ids) (take (k - 0) kinds) d) (lists ids' kinds' d')) same (e.0, e.3) in
-    ((w.0, e.1, e.2), (first_filled _ ids ids' rest k h w.1.0.0, first_filled _ kinds kinds' rest' k l w.1.0.1), w.1.1, e.4)
+    × Filled (answer_of s (places_call era inner bytes verdicts k d)) (lists (take k ids) (take k kinds) d) (lists ids' kinds' d') =
+    subst (λ (y : ProcessedOf). ProcessedAs r y × Filled y.answer (lists (take k ids) (take k kinds) d) (lists ids' kinds' d')) same (e.0, e.2) in
+    ((w.0, e.1), (first_filled _ ids ids' rest k h w.1.0.0, first_filled _ kinds kinds' rest' k l w.1.0.1), w.1.1, e.3)
 
 -- and with them paired, what it says of as many places as the host lent
 pub faults_done : (s : DynamicHoneyBadger) (era inner : ℕ) (bytes verdicts : List ℕ) (k n : ℕ) (ids kinds : List ℕ) (d : DueLists) (r : Answered) (ids' kinds' : List ℕ) (d' : DueLists)
     → k ≡ shorter n base.faults → k ≤ length ids → k ≤ length kinds → FirstDone s era inner bytes verdicts k ids kinds d r.processed ids' kinds' d'
-    → records_in r.faults ≡ pairs (take r.processed.faults ids') (take r.processed.faults kinds') → FaultsDone s era inner bytes verdicts n d r d'
-faults_done s era inner bytes verdicts k n ids kinds d r ids' kinds' d' c h l e p =
-    let m = r.processed.faults in
+    → (m : ℕ) → m ≡ faults_told r.processed.outcome → records_in r.faults ≡ pairs (take m ids') (take m kinds') → FaultsDone s era inner bytes verdicts n d r d'
+faults_done s era inner bytes verdicts k n ids kinds d r ids' kinds' d' c h l e m f p =
     let x = processed base (state_of s) (places_call era inner bytes verdicts k d) in
-    let all : m ≡ length (faults_in x.answer) = faults_counted r.processed s x e.0.0 e.0.1 in
-    let placed : m ≤ k = faults_placed base (state_of s) era inner bytes verdicts d k m all e.3 in
+    let all : m ≡ length (faults_in x.answer) = f ∙ faults_counted r.processed x e.0.0 in
+    let placed : m ≤ k = faults_placed base (state_of s) era inner bytes verdicts d k m all (omega (arith, f, e.3)) in
     let w : ProcessedAs r.processed (processed base (state_of s) (places_call era inner bytes verdicts n d))
     × (records_in r.faults ≡ map record_of (faults_in (answer_of s (places_call era inner bytes verdicts n d)))) × DueDone (answer_of s (places_call era inner bytes verdicts n d)) d d' =
     subst (λ (y : ProcessedOf). ProcessedAs r.processed y × (records_in r.faults ≡ map record_of (faults_in y.answer)) × DueDone y.answer d d')
     (capped base (state_of s) era inner bytes verdicts d k n c) (e.0.0, p ∙ lists_paired (faults_in x.answer) m k ids ids' kinds kinds' all placed h l e.1, e.2) in
-    ((w.0, e.0.1, e.0.2), w.1, w.2)
+    ((w.0, e.0.1), w.1, w.2)
 
--- the loop over the elements below a count of an array: a list that is filled with those before place i
-module _ (array : List FaultRecord) (count : ℕ) (old : List FaultRecord) where
+-- the loop over a list of records: a list that is filled with those before place i
+module _ (xs old : List FaultRecord) where
   abbrev pub filled_to : ℕ → List FaultRecord
-  filled_to i = filled (take i (take count array)) old
+  filled_to i = filled (take i xs) old
 
   -- at the start it is as it was
   pub filled_start : old ≡ filled_to 0
   filled_start = sym (filled_none old)
 
   -- a turn: an append at the next place, whether there is one or not
-  pub filled_turn : (i : ℕ) (z : FaultRecord) → i < length (take count array) → set (filled_to i) i (get_or array i z) ≡ filled_to (i + 1)
-  filled_turn i z h =
-      let k : i < count = omega (arith, length-take count array, h) in
-      rw (add-one i, take-suc (take count array) i z h, get_or-take count array i z k) (filled_next (take i (take count array)) old i (get_or array i z) (length-take-le i (take count array) (omega (arith, h))))
+  pub filled_turn : (i : ℕ) (z : FaultRecord) → i < length xs → set (filled_to i) i (get_or xs i z) ≡ filled_to (i + 1)
+  filled_turn i z h = rw (add-one i, take-suc xs i z h) (filled_next (take i xs) old i (get_or xs i z) (length-take-le i xs (omega (arith, h))))
 
   -- at the end all are filled in
-  pub filled_all : (i : ℕ) → length (take count array) ≤ i → filled_to i ≡ filled (take count array) old
-  filled_all i h = rw (take_all i (take count array) h)
+  pub filled_all : (i : ℕ) → length xs ≤ i → filled_to i ≡ filled xs old
+  filled_all i h = rw (take_all i xs h)

@@ -6,12 +6,11 @@ use Rattle.fault_log.specs.declared.Fault.{Fault}
 use Rattle.fault_log.specs.FaultLog.{fault_number}
 use Rattle.filled.specs.Filled.{filled}
 use Rattle.filled.specs.Numbers.{FaultsIn, DueIn, due_places}
-use Rattle.recipe.specs.Recipe.{NoRecipeEmpty}
 use Rattle.dynamic_honey_badger.specs.declared.DynamicHoneyBadger.{DynamicHoneyBadger}
 use Rattle.dynamic_honey_badger.specs.State.{state_of}
 use Rattle.process_output.specs.Process.{BatchCall, ReportOf, processed}
 use Rattle.process_batch.specs.declared.Processed.{Processed}
-use Rattle.process_batch.specs.Answer.{ProcessedAs, BatchRefusedKeeps}
+use Rattle.process_batch.specs.Answer.{faults_told, ProcessedAs, BatchRefusedKeeps}
 use Rattle.process_batch.specs.Lent.{faults_in, due_in}
 use Rattle.host.specs.declared.FaultRecord.{FaultRecord}
 use Rattle.host.specs.declared.FaultRecords.{FaultRecords}
@@ -53,10 +52,9 @@ pairs (i ∷ is) (k ∷ ks) = record { node_id = i; kind = k } ∷ pairs is ks
 abbrev pub answer_of : DynamicHoneyBadger → BatchCall → Outcome ReportOf
 answer_of s b = (processed base (state_of s) b).answer
 
--- what a batch call gives: what the definition says of the state and the call; where it is a refusal, beside the very state that was given; and an empty recipe
--- where there is none
+-- what a batch call gives: what the definition says of the state and the call; where it is a refusal, beside the very state that was given
 abbrev pub BatchAnswered : Processed → DynamicHoneyBadger → BatchCall → Type 0
-BatchAnswered r s b = ProcessedAs r (processed base (state_of s) b) × BatchRefusedKeeps r s × NoRecipeEmpty r.has_recipe r.recipe
+BatchAnswered r s b = ProcessedAs r (processed base (state_of s) b) × BatchRefusedKeeps r s
 
 -- what the lists of due items hold at the end
 abbrev pub DueDone : Outcome ReportOf → DueLists → DueLists → Type 0
@@ -67,7 +65,7 @@ abbrev pub FirstDone : DynamicHoneyBadger → ℕ → ℕ → List ℕ → List 
 FirstDone s era inner bytes verdicts places ids kinds d r ids' kinds' d' =
     let b = places_call era inner bytes verdicts places d in
     BatchAnswered r s b × FaultsIn (faults_in (answer_of s b)) (take places ids) (take places ids') (take places kinds) (take places kinds')
-    × DueDone (answer_of s b) d d' × (r.faults ≤ base.faults)
+    × DueDone (answer_of s b) d d' × (faults_told r.outcome ≤ base.faults)
 
 -- the batch call with its faults beside the answer
 abbrev pub FaultsDone : DynamicHoneyBadger → ℕ → ℕ → List ℕ → List ℕ → ℕ → DueLists → Answered → DueLists → Type 0

@@ -1,10 +1,10 @@
 // The batch call with a list of fault records that the host lends. A refused call writes nothing.
 #![tactic(auto)]
 
-ghost use Rattle.std.specs.Prelude.{◌≡◌, ◌<◌, ◌≤◌, length, get_or, set, take};
+ghost use Rattle.std.specs.Prelude.{◌≡◌, ◌≤◌, length, set, take};
 ghost use Rattle.bincode.specs.Sizes.{base};
 ghost use Rattle.filled.specs.Filled.{filled};
-ghost use Rattle.host.specs.Records.{records_in, no_record, pairs, FirstDone, FaultsDone, RecordsDone};
+ghost use Rattle.host.specs.Records.{records_in, pairs, FirstDone, FaultsDone, RecordsDone};
 
 use dynamic_honey_badger::DynamicHoneyBadger;
 use fault_log::FaultLog;
@@ -40,23 +40,12 @@ struct Answered {
     faults: FaultRecords,
 }
 
-// How many there are: a count past the array counts as the array's length.
-fn record_count(records: FaultRecords) -> usize
-    ensures { (result ≡ length (records_in records)) × (result ≤ base.faults) }
+// Those that count: a count past the array counts as the array's length.
+fn as_slice(records: &FaultRecords) -> &[FaultRecord]
+    ensures { result.now ≡ records_in records.now }
 {
-    let n = records.count;
-    if n < FaultLog::LIMIT {
-        n
-    } else {
-        FaultLog::LIMIT
-    }
-}
-
-fn record_at(records: FaultRecords, i: usize) -> FaultRecord
-    requires { i < base.faults }
-    ensures { result ≡ get_or records.items i no_record }
-{
-    records.items[i]
+    let n = records.count.min(FaultLog::LIMIT);
+    &records.items[..n]
 }
 
 // The first records of two lists of numbers.
@@ -68,13 +57,11 @@ fn paired(ids: &[u32], kinds: &[u8], n: usize) -> FaultRecords
         node_id: 0,
         kind: 0,
     }; FaultLog::LIMIT];
-    let mut i: usize = 0;
-    while i < n {
+    for i in 0..n {
         items[i] = FaultRecord {
             node_id: ids[i],
             kind: kinds[i],
         };
-        i += 1;
     }
     FaultRecords { count: n, items }
 }
@@ -105,8 +92,8 @@ fn process_first(
         inner,
         batch,
         verdicts,
-        &mut ids[0..places],
-        &mut kinds[0..places],
+        &mut ids[..places],
+        &mut kinds[..places],
         due_kinds,
         due_indices,
         due_eras,
@@ -146,7 +133,7 @@ fn process_faults(
         due_indices,
         due_eras,
     );
-    let n = processed.faults;
+    let n = process_batch::fault_count(&processed.outcome);
     let faults = paired(&ids, &kinds, n);
     Answered { processed, faults }
 }
@@ -168,12 +155,10 @@ fn faults_of(answered: Answered) -> FaultRecords
 fn write_faults(list: &mut [FaultRecord], records: FaultRecords)
     ensures { list.new ≡ filled (records_in records) list.old }
 {
-    let n = record_count(records);
-    let mut i: usize = 0;
-    while i < n {
-        let x = record_at(records, i);
+    let xs = as_slice(&records);
+    for i in 0..xs.len() {
+        let x = xs[i];
         append(list, i, x.node_id, x.kind);
-        i += 1;
     }
 }
 

@@ -9,11 +9,17 @@ use native.Mathlib.Nat.{add-zero}
 use lib.Dec.{eqb}
 use lib.ListN.{length, take, drop, length-append}
 use borrow.Author.Tests.{lt-ltb, le-ltb}
+use Rattle.std.specs.declared.option.Option.{Option}
+use Rattle.std.specs.declared.result.Result.{Result}
+use Rattle.std.specs.declared.result.Result.TheVariants.{Ok, Err}
 use Rattle.lists.specs.Lists.{found, lookup}
 use Rattle.lists.proofs.ListLaws.{take_padded}
 use Rattle.bincode.specs.Read.{Read, value, refuse, whole}
 use Rattle.bincode.specs.Numbers.{bytes_of}
 use Rattle.bincode.specs.Outcome.{done, refused}
+use Rattle.bincode.specs.Rows.{row_number}
+use Rattle.bincode.specs.Answer.{outcome_as_said}
+use Rattle.bincode.specs.declared.Refusal.{Refusal}
 use Rattle.bincode.specs.Sizes.{Sizes, base}
 use Rattle.bincode.specs.Stands.{Bytes, Stands, concat_map}
 use Rattle.bincode.proofs.NumberLaws.{length_bytes_of}
@@ -21,11 +27,9 @@ use Rattle.bincode.proofs.ItemLaws.{foldl_more}
 use Rattle.bincode.proofs.StandLaws.{stands_left, stands_right, stands_self}
 use Rattle.internal_contrib.specs.declared.Contrib.{Contrib}
 use Rattle.internal_contrib.specs.declared.BatchIndex.{BatchIndex}
-use Rattle.internal_contrib.specs.declared.CheckBatch.{CheckBatch}
-use Rattle.internal_contrib.specs.declared.CheckBatch.TheVariants as check
 use Rattle.internal_contrib.specs.InternalContrib.{ContribOf, read_contribs, read_batch, contrib_bytes, batch_bytes}
-use Rattle.internal_contrib.specs.Places.{placed, Place, at_place, no_place, place_from, message_count, user_in, has_id, user_of, start_at, start_in, checked, said_check}
-use Rattle.internal_contrib.specs.Index.{contribs_in, no_contrib, index_held, contrib_id, placed_from, placed_in, place_by, place_in}
+use Rattle.internal_contrib.specs.Places.{placed, Place, at_place, no_place, place_from, message_count, user_in, has_id, user_of, start_at, start_in, contributed, said_place}
+use Rattle.internal_contrib.specs.Index.{contribs_in, no_contrib, index_held, contrib_id, placed_from, placed_in, place_by, place_in, indexed, Indexed}
 use Rattle.internal_contrib.proofs.ContribLaws.{user_within, user_stands}
 use Rattle.internal_contrib.proofs.ContribCodes.{batch_one_encoding}
 
@@ -143,21 +147,25 @@ pub place_empty : (s : List ℕ) (x : Read (List ContribOf)) (id : ℕ) → plac
 place_empty s (value cs c) id p = ((place_none 8 cs id p).1, ap (start_at s) p)
 place_empty s (refuse n) id p = (refl, refl)
 
--- what an answer tells of the reading that it came from
-checked_done : (x : Read (List ContribOf)) (n : ℕ) → done n ≡ checked x → (cs : List ContribOf) × (c : ℕ) × (x ≡ value cs c) × (n ≡ message_count cs)
-checked_done (value cs c) n p = (cs, c, refl, cc)
-checked_done (refuse k) n p = let z : ◌≡◌ {A = ℕ} 0 1 = cc in absurd (let y : ⊥ = omega arith in y)
+-- what an index tells of the reading that it came from
+indexed_done : (x : Read (List ContribOf)) (p : BatchIndex × ℕ) → done p ≡ indexed x → (cs : List ContribOf) × (c : ℕ) × (x ≡ value cs c) × (p.1 ≡ message_count cs) × (p.0 ≡ index_held (placed_in x))
+indexed_done (value cs c) p q = let e : p ≡ (index_held (placed_from 8 cs), message_count cs) = cc in (cs, c, refl, ap (λ (y : BatchIndex × ℕ). y.1) e, ap (λ (y : BatchIndex × ℕ). y.0) e)
+indexed_done (refuse k) p q = let z : ◌≡◌ {A = ℕ} 0 1 = cc in absurd (let y : ⊥ = omega arith in y)
 
-checked_refused : (x : Read (List ContribOf)) (n : ℕ) → refused n ≡ checked x → x ≡ refuse n
-checked_refused (value cs c) n p = let z : ◌≡◌ {A = ℕ} 0 1 = cc in absurd (let y : ⊥ = omega arith in y)
-checked_refused (refuse k) n p = let e : k ≡ n = cc in ap refuse e
+indexed_refused : (x : Read (List ContribOf)) (n : ℕ) → refused n ≡ indexed x → x ≡ refuse n
+indexed_refused (value cs c) n p = let z : ◌≡◌ {A = ℕ} 0 1 = cc in absurd (let y : ⊥ = omega arith in y)
+indexed_refused (refuse k) n p = let e : k ≡ n = cc in ap refuse e
 
-module _ (x : Read (List ContribOf)) (r : CheckBatch) (e : said_check r ≡ checked x) where
-  pub check_value : (n : ℕ) → r ≡ check.Messages n → (cs : List ContribOf) × (c : ℕ) × (x ≡ value cs c) × (n ≡ message_count cs)
-  check_value n q = checked_done x n (sym (ap said_check q) ∙ e)
+module _ (x : Read (List ContribOf)) (r : Result (BatchIndex × ℕ) Refusal) (e : Indexed r x) where
+  pub check_value : (i : BatchIndex) (n : ℕ) → r ≡ Ok (i, n) → (cs : List ContribOf) × (c : ℕ) × (x ≡ value cs c) × (n ≡ message_count cs) × (i ≡ index_held (placed_in x))
+  check_value i n q = indexed_done x (i, n) (sym (ap (outcome_as_said (λ (p : BatchIndex × ℕ). p)) q) ∙ e)
 
-  pub check_refuse : (n : ℕ) → r ≡ check.Refused n → x ≡ refuse n
-  check_refuse n q = checked_refused x n (sym (ap said_check q) ∙ e)
+  pub check_refuse : (k : Refusal) → r ≡ Err k → x ≡ refuse (row_number k)
+  check_refuse k q = indexed_refused x (row_number k) (sym (ap (outcome_as_said (λ (p : BatchIndex × ℕ). p)) q) ∙ e)
+
+  -- the place that is found by it is the batch's
+  pub check_place : (i : BatchIndex) (n : ℕ) → r ≡ Ok (i, n) → (o : Option (ℕ × ℕ)) (id : ℕ) → said_place o ≡ place_in (contribs_in i) id → (p : Place) → said_place o ≡ p → place_of x id ≡ p
+  check_place i n q o id f p g = sym (index_place x i (check_value i n q).4 id) ∙ sym f ∙ g
 
 -- a place found in an accepted batch lies within it, and the node's user bytes stand there
 module _ (z : Sizes) (nodes-fit : z.nodes < 256 ^ 8) (rows_fit : z.rows < 256 ^ 8) (user-fits : z.user < 256 ^ 8) where
@@ -172,3 +180,22 @@ module _ (z : Sizes) (nodes-fit : z.nodes < 256 ^ 8) (rows_fit : z.rows < 256 ^ 
       let k : 0 + length (bytes_of 8 (length cs)) ≡ 8 = omega (arith, length_bytes_of 8 (length cs)) in
       let g = place_shows s id start n 8 cs p in
       (omega (arith, g.within), g.shown (subst (λ (i : ℕ). Stands s i (concat_map contrib_bytes cs)) k u))
+
+  -- the same by the place that the batch has
+  pub place_told : (s : List ℕ) → Bytes s → (id start n : ℕ) → place_of (read_batch z s) id ≡ at_place start n
+      → (start + n ≤ length s) × (take n (drop start s) ≡ user_of (read_batch z s) id) × (start ≡ start_in s (read_batch z s) id)
+  place_told s b id start n p =
+      let w = place_read (read_batch z s) id start n p in
+      let g = batch_shows s b w.0 w.1 id start n w.2 w.3 in
+      (g.0, g.1 ∙ ap (λ (y : Read (List ContribOf)). user_of y id) (sym w.2), ap (start_at s) (sym w.3) ∙ ap (λ (y : Read (List ContribOf)). start_in s y id) (sym w.2))
+
+-- the companion, by the place that the batch has
+pub has_place : (x : Read (List ContribOf)) (id start n : ℕ) → place_of x id ≡ at_place start n → done true ≡ contributed x id
+has_place x id start n p =
+    let w = place_read x id start n p in
+    ap done (sym (place_shows [] id start n 8 w.0 w.3).has) ∙ ap (λ (y : Read (List ContribOf)). contributed y id) (sym w.2)
+
+pub has_none : (x : Read (List ContribOf)) (cs : List ContribOf) (c : ℕ) → x ≡ value cs c → (id : ℕ) → place_of x id ≡ no_place → done false ≡ contributed x id
+has_none x cs c e id p =
+    let q : place_from 8 cs id ≡ no_place = ap (λ (y : Read (List ContribOf)). place_of y id) (sym e) ∙ p in
+    ap done (sym (place_none 8 cs id q).0) ∙ ap (λ (y : Read (List ContribOf)). contributed y id) (sym e)

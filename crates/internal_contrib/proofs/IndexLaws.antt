@@ -7,19 +7,27 @@ use native.Mathlib.Omega.{arith}
 use lib.ListN.{length, set, length-append}
 use Rattle.lists.specs.Lists.{padded}
 use Rattle.lists.proofs.ListLaws.{padded_set}
-use Rattle.bincode.specs.Read.{value, refuse, map_read}
+use Rattle.std.specs.declared.result.Result.TheVariants.{Ok, Err}
+use Rattle.bincode.specs.Read.{value, refuse}
+use Rattle.bincode.specs.Outcome.{refused}
+use Rattle.bincode.specs.Rows.{row_number}
+use Rattle.bincode.specs.Answer.{answer}
+use Rattle.bincode.specs.declared.Refusal.{Refusal}
 use Rattle.bincode.specs.Numbers.{read_num}
 use Rattle.bincode.specs.Sizes.{Sizes}
 use Rattle.bincode.specs.Items.{items, after}
 use Rattle.bincode.specs.Stands.{Bytes, concat_map}
 use Rattle.bincode.proofs.NumberLaws.{read_value}
-use Rattle.bincode.proofs.ReadLaws.{map_value, whole_refused, whole_left, whole_read}
+use Rattle.bincode.proofs.ReadLaws.{answer_ok, answer_err, whole_refused, whole_left, whole_read}
 use Rattle.bincode.proofs.ItemLaws.{counted_cut, counted_over, counted_start, items_turn, items_refused, items_end}
+use Rattle.bincode.proofs.RowLaws.{caused_row}
 use Rattle.internal_contrib.specs.declared.Budget.{Budget}
 use Rattle.internal_contrib.specs.declared.Contrib.{Contrib}
 use Rattle.internal_contrib.specs.InternalContrib.{ContribOf, read_contrib, read_contribs, read_batch, spending, opening, contrib_bytes}
 use Rattle.internal_contrib.specs.Places.{placed, spent, message_count}
-use Rattle.internal_contrib.specs.Index.{no_contrib, placed_from}
+use Rattle.internal_contrib.specs.Index.{no_contrib, placed_from, indexed, Indexed}
+use Rattle.internal_contrib.specs.ContribCauses.{batch_wrong}
+use Rattle.internal_contrib.proofs.ContribCauses.{batch_causes}
 use Rattle.internal_contrib.proofs.ContribCodes.{contrib_codes}
 use Rattle.internal_contrib.proofs.BatchLaws.{batch_short, count_more, length_more, placed_more, length_placed}
 
@@ -81,15 +89,23 @@ module _ (z : Sizes) (s : List ℕ) where
         pub index_refused : length s ≤ z.batch → (k : ℕ) → read_contrib z s b c ≡ refuse k → read_batch z s ≡ refuse k
         index_refused short k r = refused_batch short k (w.rest ∙ items_refused (read_contrib z s) spending w.passed n i b c k h r)
 
+        -- the refusal is answered by the number that the definition gives
+        pub index_passed : z.nodes < 256 ^ 8 → z.rows < 256 ^ 8 → z.user < 256 ^ 8 → Bytes s → length s ≤ z.batch → (k : Refusal) → answer (placed c) (read_contrib z s b c) ≡ Err k → Indexed (Err k) (read_batch z s)
+        index_passed nodes-fit rows_fit user-fits bytes short k r =
+            let a = answer_err (placed c) (read_contrib z s b c) k r in
+            let x = index_refused short a.0 a.1 in
+            let o = caused_row s (read_batch z s) (batch_wrong z s) (batch_causes z nodes-fit rows_fit user-fits s) bytes a.0 x in
+            ap refused (ap row_number a.2 ∙ o) ∙ ap indexed (sym x)
+
         -- a turn, by what code keeps of the contribution
         module _ (nodes-fit : z.nodes < 256 ^ 8) (rows_fit : z.rows < 256 ^ 8) (user-fits : z.user < 256 ^ 8) (bytes : Bytes s)
-            (e : Contrib) (next : ℕ) (r : value e next ≡ map_read (placed c) (read_contrib z s b c)) where
+            (e : Contrib) (next : ℕ) (r : answer (placed c) (read_contrib z s b c) ≡ Ok (e, next)) where
           -- the contribution that code keeps the places of
           kept : (x : ContribOf) × (read_contrib z s b c ≡ value x next) × (placed c x ≡ e) × (next ≡ c + length (contrib_bytes x)) × (length x.messages ≤ b.left)
           kept =
-              let a = map_value (placed c) (read_contrib z s b c) (sym r) in
+              let a = answer_ok (placed c) (read_contrib z s b c) e next r in
               let k = (contrib_codes z nodes-fit rows_fit user-fits s b).stands bytes c a.0 next a.1 in
-              (a.0, a.1, a.2, k.1, k.2.few_messages)
+              (a.0, a.1, sym a.2, k.1, k.2.few_messages)
 
           pub index_fits : messages + e.message_count ≤ z.items
           index_fits =

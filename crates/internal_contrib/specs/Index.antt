@@ -1,14 +1,17 @@
 -- What is kept of a whole batch: the places of its contributions, which stand one behind the other; and what is read again at a place that was kept.
 use Rattle.std.specs.Prelude.{ℕ, ◌+◌, ◌≡◌, List, [], ◌∷◌, length, take}
+use Rattle.std.specs.declared.result.Result.{Result}
 use Rattle.lists.specs.Lists.{padded, Found, found, nothing, lookup}
 use Rattle.bincode.specs.Read.{Read, value, refuse}
+use Rattle.bincode.specs.Outcome.{Outcome, done, refused}
+use Rattle.bincode.specs.Answer.{outcome_as_said}
 use Rattle.bincode.specs.Sizes.{Sizes, base}
+use Rattle.bincode.specs.declared.Refusal.{Refusal}
 use Rattle.internal_contrib.specs.InternalContrib.{ContribOf, read_contrib, contrib_bytes}
-use Rattle.internal_contrib.specs.Places.{placed, Place, at_place, no_place, checked, said_check}
+use Rattle.internal_contrib.specs.Places.{placed, Place, at_place, no_place, message_count}
 use Rattle.internal_contrib.specs.declared.Budget.{Budget}
 use Rattle.internal_contrib.specs.declared.Contrib.{Contrib}
 use Rattle.internal_contrib.specs.declared.BatchIndex.{BatchIndex}
-use Rattle.internal_contrib.specs.declared.ReadIndex.{ReadIndex}
 
 -- the contributions of any value of the struct: those below the count, as far as the array reaches
 abbrev pub contribs_in : BatchIndex → List Contrib
@@ -31,8 +34,13 @@ abbrev pub placed_in : Read (List ContribOf) → List Contrib
 placed_in (value cs c) = placed_from 8 cs
 placed_in (refuse n) = []
 
-abbrev pub Indexed : ReadIndex → Read (List ContribOf) → Type 0
-Indexed r x = (said_check r.outcome ≡ checked x) × (r.index ≡ index_held (placed_in x))
+-- what a batch is read as: its index, and how many key-generation messages it has; or the refusal met first
+abbrev pub indexed : Read (List ContribOf) → Outcome (BatchIndex × ℕ)
+indexed (value cs c) = done (index_held (placed_from 8 cs), message_count cs)
+indexed (refuse n) = refused n
+
+abbrev pub Indexed : Result (BatchIndex × ℕ) Refusal → Read (List ContribOf) → Type 0
+Indexed r x = outcome_as_said (λ (p : BatchIndex × ℕ). p) r ≡ indexed x
 
 -- the place of a node's user bytes, by what is kept
 abbrev pub contrib_id : Contrib → ℕ

@@ -1,21 +1,12 @@
 -- What code keeps of a batch: the places of a contribution's parts, which follow from the lengths of the encodings; and its answers.
-use Rattle.std.specs.Prelude.{ℕ, ◌+◌, ◌-◌, List, [], ◌∷◌, Bool, true, false, cond, length, eqb}
+use Rattle.std.specs.Prelude.{ℕ, ◌+◌, ◌-◌, List, [], ◌∷◌, Bool, true, false, cond, length, eqb, Some, None}
+use Rattle.std.specs.declared.option.Option.{Option}
 use Rattle.bincode.specs.Read.{Read, value, refuse}
 use Rattle.bincode.specs.Outcome.{Outcome, done, refused}
 use Rattle.bincode.specs.Items.{foldl}
 use Rattle.internal_contrib.specs.InternalContrib.{ContribOf, user_bytes, messages_bytes, contrib_bytes}
 use Rattle.internal_contrib.specs.declared.Budget.{Budget}
 use Rattle.internal_contrib.specs.declared.Contrib.{Contrib}
-use Rattle.internal_contrib.specs.declared.ReadCount.{ReadCount}
-use Rattle.internal_contrib.specs.declared.ReadCount.TheVariants as count
-use Rattle.internal_contrib.specs.declared.ReadContrib.{ReadContrib}
-use Rattle.internal_contrib.specs.declared.ReadContrib.TheVariants as contrib
-use Rattle.internal_contrib.specs.declared.UserPlace.{UserPlace}
-use Rattle.internal_contrib.specs.declared.UserPlace.TheVariants as place
-use Rattle.internal_contrib.specs.declared.CheckBatch.{CheckBatch}
-use Rattle.internal_contrib.specs.declared.CheckBatch.TheVariants as check
-use Rattle.internal_contrib.specs.declared.HasContrib.{HasContrib}
-use Rattle.internal_contrib.specs.declared.HasContrib.TheVariants as has
 
 -- a contribution that stands at a position: four bytes of id, a count of eight, the user bytes, the messages, the votes
 abbrev pub placed : ℕ → ContribOf → Contrib
@@ -84,24 +75,7 @@ abbrev pub checked : Read (List ContribOf) → Outcome ℕ
 checked (value cs c) = done (message_count cs)
 checked (refuse n) = refused n
 
--- the answers as code gives them
-abbrev pub said_count : ReadCount → Read ℕ
-said_count (count.Value n c) = value n c
-said_count (count.Refused n) = refuse n
-
-abbrev pub said_contrib : ReadContrib → Read Contrib
-said_contrib (contrib.Value e c) = value e c
-said_contrib (contrib.Refused n) = refuse n
-
-abbrev pub said_place : UserPlace → Place
-said_place (place.At start n) = at_place start n
-said_place place.Nothing = no_place
-
-abbrev pub said_check : CheckBatch → Outcome ℕ
-said_check (check.Messages n) = done n
-said_check (check.Refused n) = refused n
-
-abbrev pub said_has : HasContrib → Outcome Bool
-said_has has.Yes = done true
-said_has has.No = done false
-said_has (has.Refused n) = refused n
+-- a place as code answers it
+abbrev pub said_place : Option (ℕ × ℕ) → Place
+said_place (Some (start, n)) = at_place start n
+said_place None = no_place

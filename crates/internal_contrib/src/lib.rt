@@ -1,37 +1,17 @@
 // mod.rs: `InternalContrib`, and a batch of them. There is no heap, so a contribution is kept as the places of its parts, to be read again.
 #![tactic(auto)]
 
-ghost use Rattle.std.specs.Prelude.{◌≡◌, [], ◌-◌, ◌≤◌, length};
-ghost use Rattle.bincode.specs.Read.{refuse, number_of, map_read};
+ghost use Rattle.std.specs.Prelude.{ℕ, ◌≡◌, [], ◌≤◌, Bool, length};
 ghost use Rattle.bincode.specs.Items.{many};
-ghost use Rattle.bincode.specs.Answer.{step_of};
+ghost use Rattle.bincode.specs.Answer.{answer, step_of, outcome_as_said};
 ghost use Rattle.bincode.specs.Sizes.{base};
 ghost use Rattle.votes.specs.Votes.{read_signed_vote};
 ghost use Rattle.key_gen_message.specs.KeyGenMessage.{read_signed_key_gen_msg};
 ghost use Rattle.internal_contrib.specs.InternalContrib.{read_user, read_messages, read_votes, read_contrib, read_batch};
-ghost use Rattle.internal_contrib.specs.Places.{said_count, placed, spent, said_contrib, said_place, checked, said_check, contributed, said_has, user_of, start_of};
+ghost use Rattle.internal_contrib.specs.Places.{placed, spent, said_place, checked, contributed, user_of, start_of};
 ghost use Rattle.internal_contrib.specs.Index.{contribs_in, index_held, place_in, Indexed};
 
-use bincode::{ReadU32, ReadU64, Step};
-
-// How many items stand from a position on, with the position behind them, or a refusal.
-#[derive(Clone, Copy)]
-pub enum ReadCount {
-    Value(u64, usize),
-    Refused(u8),
-}
-
-impl ReadCount {
-    // The refusal's number, 0 where there is none.
-    fn number(self) -> u8
-        ensures { result ≡ number_of (said_count self) }
-    {
-        match self {
-            ReadCount::Value(_, _) => 0,
-            ReadCount::Refused(n) => n,
-        }
-    }
-}
+use bincode::Refusal;
 
 // Where the parts of a contribution stand: its user bytes, and the counts of its messages and of its votes.
 #[derive(Clone, Copy)]
@@ -48,24 +28,6 @@ pub struct Contrib {
 impl Contrib {
     // User bytes of a contribution.
     pub const USER: u64 = 4096;
-}
-
-#[derive(Clone, Copy)]
-pub enum ReadContrib {
-    Value(Contrib, usize),
-    Refused(u8),
-}
-
-impl ReadContrib {
-    // The refusal's number, 0 where there is none.
-    pub fn number(self) -> u8
-        ensures { result ≡ number_of (said_contrib self) }
-    {
-        match self {
-            ReadContrib::Value(_, _) => 0,
-            ReadContrib::Refused(n) => n,
-        }
-    }
 }
 
 // What may follow in a batch: the least id, and how many votes and messages are left of the total.
@@ -98,149 +60,108 @@ impl Budget {
         ensures { result ≡ spent self c }
     {
         Budget {
-            low: c.id as u64 + 1,
-            left: minus(minus(self.left, c.message_count), c.vote_count),
+            low: u64::from(c.id) + 1,
+            left: self
+                .left
+                .saturating_sub(c.message_count)
+                .saturating_sub(c.vote_count),
         }
     }
 }
 
-// a - b, or 0 where b is greater.
-fn minus(a: u64, b: u64) -> u64
-    ensures { result ≡ a - b }
+// How many user bytes there are, with the position behind them.
+fn read_user(s: &[u8], at: usize) -> Result<(u64, usize), Refusal>
+    ensures { result ≡ answer length (read_user base s.now at) }
 {
-    if a < b {
-        return 0;
-    }
-    a - b
-}
-
-// The user bytes behind their count.
-fn read_user(s: &[u8], at: usize) -> ReadCount
-    ensures { said_count result ≡ map_read length (read_user base s.now at) }
-{
-    let ReadU64::Value(n, c) = bincode::read_u64(s, at) else {
-        return ReadCount::Refused(2);
+    let Ok((n, c)) = bincode::read_u64(s, at) else {
+        return Err(Refusal::Malformed);
     };
     if Contrib::USER < n {
-        return ReadCount::Refused(3);
+        return Err(Refusal::TooLarge);
     }
     let len = n as usize;
     if bincode::room(s.len(), c, len) {
-        ReadCount::Value(n, c + len)
+        Ok((n, c + len))
     } else {
-        ReadCount::Refused(2)
+        Err(Refusal::Malformed)
     }
 }
 
-// n messages, one after the other.
-fn check_messages(s: &[u8], at: usize, n: u64) -> Step
+// The position behind n messages, one after the other.
+fn check_messages(s: &[u8], at: usize, n: u64) -> Result<usize, Refusal>
     ensures { result ≡ step_of (many (read_signed_key_gen_msg base s.now) n at) }
 {
     let mut c = at;
-    let mut i: u64 = 0;
-    while i < n {
-        let r = key_gen_message::read_head(s, c);
-        let step = r.step;
-        let Step::Next(next) = step else {
-            return step;
-        };
+    for _ in 0..n {
+        let (_, next) = key_gen_message::read_head(s, c)?;
         c = next;
-        i += 1;
     }
-    Step::Next(c)
+    Ok(c)
 }
 
-// n votes, one after the other.
-fn check_votes(s: &[u8], at: usize, n: u64) -> Step
+// The position behind n votes, one after the other.
+fn check_votes(s: &[u8], at: usize, n: u64) -> Result<usize, Refusal>
     ensures { result ≡ step_of (many (read_signed_vote base s.now) n at) }
 {
     let mut c = at;
-    let mut i: u64 = 0;
-    while i < n {
-        let r = votes::read_vote_head(s, c);
-        let step = r.step;
-        let Step::Next(next) = step else {
-            return step;
-        };
+    for _ in 0..n {
+        let (_, next) = votes::read_vote_head(s, c)?;
         c = next;
-        i += 1;
     }
-    Step::Next(c)
+    Ok(c)
 }
 
-fn read_messages(s: &[u8], at: usize, left: u64) -> ReadCount
-    ensures { said_count result ≡ map_read length (read_messages base s.now left at) }
+// How many messages there are, with the position behind them.
+fn read_messages(s: &[u8], at: usize, left: u64) -> Result<(u64, usize), Refusal>
+    ensures { result ≡ answer length (read_messages base s.now left at) }
 {
-    let ReadU64::Value(n, c) = bincode::read_u64(s, at) else {
-        return ReadCount::Refused(2);
+    let Ok((n, c)) = bincode::read_u64(s, at) else {
+        return Err(Refusal::Malformed);
     };
     if left < n {
-        return ReadCount::Refused(3);
+        return Err(Refusal::TooLarge);
     }
-    let step = check_messages(s, c, n);
-    let Step::Next(d) = step else {
-        return ReadCount::Refused(step.number());
-    };
-    ReadCount::Value(n, d)
+    let d = check_messages(s, c, n)?;
+    Ok((n, d))
 }
 
-fn read_votes(s: &[u8], at: usize, left: u64) -> ReadCount
-    ensures { said_count result ≡ map_read length (read_votes base s.now left at) }
+// How many votes there are, with the position behind them.
+fn read_votes(s: &[u8], at: usize, left: u64) -> Result<(u64, usize), Refusal>
+    ensures { result ≡ answer length (read_votes base s.now left at) }
 {
-    let ReadU64::Value(n, c) = bincode::read_u64(s, at) else {
-        return ReadCount::Refused(2);
+    let Ok((n, c)) = bincode::read_u64(s, at) else {
+        return Err(Refusal::Malformed);
     };
     if left < n {
-        return ReadCount::Refused(3);
+        return Err(Refusal::TooLarge);
     }
-    let step = check_votes(s, c, n);
-    let Step::Next(d) = step else {
-        return ReadCount::Refused(step.number());
-    };
-    ReadCount::Value(n, d)
+    let d = check_votes(s, c, n)?;
+    Ok((n, d))
 }
 
 // A contribution: the places of its parts, every item of it read once.
-pub fn read_contrib(s: &[u8], at: usize, b: Budget) -> ReadContrib
-    ensures { said_contrib result ≡ map_read (placed at) (read_contrib base s.now b at) }
+pub fn read_contrib(s: &[u8], at: usize, b: Budget) -> Result<(Contrib, usize), Refusal>
+    ensures { result ≡ answer (placed at) (read_contrib base s.now b at) }
 {
-    let ReadU32::Value(id, c) = bincode::read_u32(s, at) else {
-        return ReadContrib::Refused(2);
+    let Ok((id, c)) = bincode::read_u32(s, at) else {
+        return Err(Refusal::Malformed);
     };
-    if (id as u64) < b.low {
-        return ReadContrib::Refused(2);
+    if u64::from(id) < b.low {
+        return Err(Refusal::Malformed);
     }
-    let u = read_user(s, c);
-    let ReadCount::Value(user_count, messages) = u else {
-        return ReadContrib::Refused(u.number());
+    let (user_count, messages) = read_user(s, c)?;
+    let (message_count, votes) = read_messages(s, messages, b.left)?;
+    let (vote_count, next) = read_votes(s, votes, b.left.saturating_sub(message_count))?;
+    let contrib = Contrib {
+        id,
+        user: c + 8,
+        user_count,
+        messages,
+        message_count,
+        votes,
+        vote_count,
     };
-    let m = read_messages(s, messages, b.left);
-    let ReadCount::Value(message_count, votes) = m else {
-        return ReadContrib::Refused(m.number());
-    };
-    let v = read_votes(s, votes, minus(b.left, message_count));
-    let ReadCount::Value(vote_count, next) = v else {
-        return ReadContrib::Refused(v.number());
-    };
-    ReadContrib::Value(
-        Contrib {
-            id,
-            user: c + 8,
-            user_count,
-            messages,
-            message_count,
-            votes,
-            vote_count,
-        },
-        next,
-    )
-}
-
-// Where a contribution's user bytes start and how many they are, if there is one.
-#[derive(Clone, Copy)]
-pub enum UserPlace {
-    At(usize, u64),
-    Nothing,
+    Ok((contrib, next))
 }
 
 // The contributions of a batch in its order: those below the count.
@@ -253,6 +174,7 @@ pub struct BatchIndex {
 impl BatchIndex {
     pub const LIMIT: usize = 16;
 
+    #[tactic(auto, unfolding(lists::specs::Lists::padded))]
     pub fn empty() -> Self
         ensures { result ≡ index_held [] }
     {
@@ -275,66 +197,34 @@ impl BatchIndex {
     pub fn len(self) -> usize
         ensures { (result ≡ length (contribs_in self)) × (result ≤ base.nodes) }
     {
-        let n = self.count;
-        if n < BatchIndex::LIMIT {
-            n
-        } else {
-            BatchIndex::LIMIT
-        }
+        self.count.min(BatchIndex::LIMIT)
     }
 
-    // Where the user bytes of a node's contribution stand; ids ascend, so it has no other.
-    pub fn place_of(self, id: u32) -> UserPlace
+    // Where the user bytes of a node's contribution start and how many they are, if it has one; ids ascend, so it has no other.
+    pub fn place_of(self, id: u32) -> Option<(usize, u64)>
         ensures { said_place result ≡ place_in (contribs_in self) id }
     {
-        let n = self.len();
-        let mut i: usize = 0;
-        while i < n {
-            let c = self.contribs[i];
+        for c in &self.contribs[..self.len()] {
             if c.id == id {
-                return UserPlace::At(c.user, c.user_count);
+                return Some((c.user, c.user_count));
             }
-            i += 1;
         }
-        UserPlace::Nothing
+        None
     }
 }
 
-// The number of a batch's key-generation messages, or the batch's refusal (rows 2 and 3).
-#[derive(Clone, Copy)]
-pub enum CheckBatch {
-    Messages(u64),
-    Refused(u8),
-}
-
-// The index stands beside the answer; it is empty where reading refuses.
-#[derive(Clone, Copy)]
-pub struct ReadIndex {
-    pub outcome: CheckBatch,
-    pub index: BatchIndex,
-}
-
-fn refused_index(n: u8) -> ReadIndex
-    ensures { Indexed result (refuse n) }
-{
-    ReadIndex {
-        outcome: CheckBatch::Refused(n),
-        index: BatchIndex::empty(),
-    }
-}
-
-// Reads a whole batch once: it refuses, or notes where each contribution's parts stand.
-pub fn index_batch(s: &[u8]) -> ReadIndex
+// Reads a whole batch once: it refuses (rows 2 and 3), or notes where each contribution's parts stand and how many key-generation messages there are.
+pub fn index_batch(s: &[u8]) -> Result<(BatchIndex, u64), Refusal>
     ensures { Indexed result (read_batch base s.now) }
 {
     if Budget::BYTES < s.len() {
-        return refused_index(3); // the whole length
+        return Err(Refusal::TooLarge); // the whole length
     }
-    let ReadU64::Value(n, first) = bincode::read_u64(s, 0) else {
-        return refused_index(2);
+    let Ok((n, first)) = bincode::read_u64(s, 0) else {
+        return Err(Refusal::Malformed);
     };
     if Budget::CONTRIBS < n {
-        return refused_index(3); // a count over its size
+        return Err(Refusal::TooLarge); // a count over its size
     }
     let count = n as usize;
     let none = BatchIndex::empty();
@@ -342,54 +232,35 @@ pub fn index_batch(s: &[u8]) -> ReadIndex
     let mut b = Budget::new();
     let mut messages: u64 = 0;
     let mut c = first;
-    let mut i: usize = 0;
-    while i < count {
-        let r = read_contrib(s, c, b);
-        let ReadContrib::Value(e, next) = r else {
-            return refused_index(r.number());
-        };
+    for i in 0..count {
+        let (e, next) = read_contrib(s, c, b)?;
         contribs[i] = e;
         messages += e.message_count;
         b = b.spend(e);
         c = next;
-        i += 1;
     }
     if c < s.len() {
-        return refused_index(2);
+        return Err(Refusal::Malformed);
     }
-    ReadIndex {
-        outcome: CheckBatch::Messages(messages),
-        index: BatchIndex { count, contribs },
-    }
+    Ok((BatchIndex { count, contribs }, messages))
 }
 
-pub fn check_batch(s: &[u8]) -> CheckBatch
-    ensures { said_check result ≡ checked (read_batch base s.now) }
+// The number of a batch's key-generation messages, or the batch's refusal.
+pub fn check_batch(s: &[u8]) -> Result<u64, Refusal>
+    ensures { outcome_as_said (λ (x : ℕ). x) result ≡ checked (read_batch base s.now) }
 {
-    let r = index_batch(s);
-    r.outcome
+    let (_, messages) = index_batch(s)?;
+    Ok(messages)
 }
 
 // Whether a batch has a contribution of a node, or the batch's refusal.
-#[derive(Clone, Copy)]
-pub enum HasContrib {
-    Yes,
-    No,
-    Refused(u8),
-}
-
-pub fn has_contrib(s: &[u8], id: u32) -> HasContrib
-    ensures { said_has result ≡ contributed (read_batch base s.now) id }
+pub fn has_contrib(s: &[u8], id: u32) -> Result<bool, Refusal>
+    ensures { outcome_as_said (λ (x : Bool). x) result ≡ contributed (read_batch base s.now) id }
 {
-    let r = index_batch(s);
-    let outcome = r.outcome;
-    let index = r.index;
-    match outcome {
-        CheckBatch::Messages(_) => match index.place_of(id) {
-            UserPlace::At(_, _) => HasContrib::Yes,
-            UserPlace::Nothing => HasContrib::No,
-        },
-        CheckBatch::Refused(n) => HasContrib::Refused(n),
+    let (index, _) = index_batch(s)?;
+    match index.place_of(id) {
+        Some(_) => Ok(true),
+        None => Ok(false),
     }
 }
 
@@ -398,9 +269,10 @@ pub fn user_bytes(s: &[u8], id: u32) -> &[u8]
     ensures { (result.now ≡ user_of (read_batch base s.now) id) × (result.ref_ptr ≡ start_of s.entry.ref_ptr s.now (read_batch base s.now) id) }
 {
     let n = s.len();
-    let r = index_batch(s);
-    let index = r.index;
-    let UserPlace::At(start, count) = index.place_of(id) else {
+    let Ok((index, _)) = index_batch(s) else {
+        return &s[n..n];
+    };
+    let Some((start, count)) = index.place_of(id) else {
         return &s[n..n];
     };
     let end = start + count as usize;

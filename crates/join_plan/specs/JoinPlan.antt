@@ -6,16 +6,12 @@ use Rattle.bincode.specs.Outcome.{Outcome, done, refused}
 use Rattle.bincode.specs.Numbers.{Edition, fixed}
 use Rattle.bincode.specs.Sizes.{Sizes}
 use Rattle.bincode.specs.Stands.{concat}
-use Rattle.bincode.specs.Answer.{step_of, held_of}
 use Rattle.pub_key_map.specs.declared.Node.{Node}
 use Rattle.pub_key_map.specs.PubKeyMap.{nodes_of, map_held, read_map, map_bytes, MapOk}
 use Rattle.params.specs.declared.Params.{Params}
-use Rattle.params.specs.Params.{no_params, read_params, params_bytes, ParamsOk}
+use Rattle.params.specs.Params.{read_params, params_bytes, ParamsOk}
 use Rattle.change.specs.Change.{ChangeStateOf, none, state_of, state_held, read_state, state_bytes, StateOk}
 use Rattle.join_plan.specs.declared.JoinPlan.{JoinPlan}
-use Rattle.join_plan.specs.declared.ReadPlan.{ReadPlan}
-use Rattle.join_plan.specs.declared.Written.{Written}
-use Rattle.join_plan.specs.declared.Written.TheVariants.{Upto, Refused}
 
 pub record PlanOf : Type 0 where
   pub era : ℕ
@@ -54,12 +50,6 @@ plan_of p = record { era = p.era; change = state_of p.change; keys = nodes_of p.
 abbrev pub plan_held : PlanOf → JoinPlan
 plan_held p = record { era = p.era; change = state_held p.change; pub_keys = map_held p.keys; pub_key_set = p.key_set; params = p.params }
 
-abbrev pub no_plan : PlanOf
-no_plan = record { era = 0; change = none; keys = []; key_set = 0; params = no_params }
-
-abbrev pub plan_answer : Read PlanOf → ReadPlan
-plan_answer x = record { step = step_of x; plan = held_of plan_held (plan_held no_plan) x }
-
 -- row 1: the buffer is shorter than what is lent for a plan
 abbrev pub row1 : Sizes → List ℕ → Bool
 row1 z l = ltb (length l) z.plan
@@ -70,7 +60,3 @@ plan_written z l p = cond (row1 z l) l (sets l 0 (plan_bytes fixed p))
 
 unfoldable pub plan_said : Sizes → List ℕ → PlanOf → Outcome ℕ
 plan_said z l p = cond (row1 z l) (refused 1) (done (length (plan_bytes fixed p)))
-
-abbrev pub said_written : Written → Outcome ℕ
-said_written (Upto n) = done n
-said_written (Refused n) = refused n

@@ -8,21 +8,22 @@ use native.Mathlib.Omega.{arith}
 use lib.Dec.{eqb}
 use lib.ListN.{length}
 use borrow.Author.Tests.{lt-ltb, le-ltb, eq-eqb, ne_eqb}
+use Rattle.std.specs.declared.result.Result.TheVariants.{Ok}
+use Rattle.bincode.specs.Answer.{answer}
 use Rattle.bincode.specs.Read.{value, refuse, whole}
 use Rattle.bincode.specs.Outcome.{done, refused}
 use Rattle.bincode.specs.Numbers.{fixed}
-use Rattle.bincode.specs.Sizes.{Sizes}
+use Rattle.bincode.specs.Sizes.{Sizes, base}
+use Rattle.bincode.proofs.ReadLaws.{answer_ok}
+use Rattle.lists.proofs.ListLaws.{take_padded}
 use Rattle.pub_key_map.specs.declared.Node.{Node}
-use Rattle.pub_key_map.specs.PubKeyMap.{map_held, read_map}
+use Rattle.pub_key_map.specs.declared.PubKeyMap.{PubKeyMap}
+use Rattle.pub_key_map.specs.PubKeyMap.{no_node, nodes_of, map_held, read_map}
 use Rattle.network_info.specs.NetworkInfo.{is_member}
 use Rattle.params.specs.declared.Params.{Params}
-use Rattle.params.specs.Params.{no_params, read_params}
-use Rattle.join_plan.specs.JoinPlan.{PlanOf, read_plan, plan_held, no_plan}
-use Rattle.joining.specs.Starting.{is_empty, empty_progress, join_row8, join_row9, join_row10, join_plan, join_checked, start_map, start_checked, no_joining, JoiningRefusedEmpty, no_starting, StartingRefusedEmpty}
-use Rattle.joining.specs.declared.StartOutcome.{StartOutcome}
-use Rattle.joining.specs.declared.StartOutcome.TheVariants as start
-use Rattle.joining.specs.declared.Joining.{Joining}
-use Rattle.joining.specs.declared.Starting.{Starting}
+use Rattle.params.specs.Params.{read_params}
+use Rattle.join_plan.specs.JoinPlan.{PlanOf, read_plan}
+use Rattle.joining.specs.Starting.{is_empty, empty_progress, join_row8, join_row9, join_row10, join_plan, join_checked, start_map, start_checked}
 
 -- empty maps
 module _ (ns : List Node) where
@@ -138,13 +139,14 @@ module _ (z : Sizes) (key : ℕ) (map params : List ℕ) where
     unfolding start_checked
     start_read p d r = rw (m, r)
 
--- what stands beside a refusal: a start that is accepted is not refused
-pub accepted_not_refused : (n : ℕ) → start.Accepted ≡ start.Refused n → ⊥
-accepted_not_refused n e = let z : ◌≡◌ {A = ℕ} 0 1 = cc in omega arith
-
--- the empty answers are as they should be
-pub joining_empty : (k : ℕ) (r : Joining) → r ≡ no_joining k → JoiningRefusedEmpty r
-joining_empty k r h n e = h ∙ ap (λ (o : StartOutcome). record { outcome = o; plan = plan_held no_plan }) (sym (ap (λ (r : Joining). r.outcome) h) ∙ e)
-
-pub starting_empty : (k : ℕ) (r : Starting) → r ≡ no_starting k → StartingRefusedEmpty r
-starting_empty k r h n e = h ∙ ap (λ (o : StartOutcome). record { outcome = o; pub_keys = map_held []; params = no_params }) (sym (ap (λ (r : Starting). r.outcome) h) ∙ e)
+-- the same by the answers that code gives: what was read goes through the rows
+pub start_held : (key : ℕ) (map params : List ℕ) (m : PubKeyMap) (c : ℕ) (p : Params) (d : ℕ)
+    → answer map_held (whole (read_map fixed base map) map) ≡ Ok (m, c)
+    → answer (λ (x : Params). x) (whole (read_params fixed params) params) ≡ Ok (p, d)
+    → start_checked base key map params ≡ start_map key (nodes_of m) p
+start_held key map params m c p d e f =
+    let x = answer_ok map_held (whole (read_map fixed base map) map) m c e in
+    let y = answer_ok (λ (x : Params). x) (whole (read_params fixed params) params) p d f in
+    start_read base key map params x.0 c x.1 y.0 d y.1
+    ∙ ap (λ (ns : List Node). start_map key ns y.0) (sym (ap nodes_of x.2 ∙ take_padded base.nodes no_node x.0))
+    ∙ ap (start_map key (nodes_of m)) (sym y.2)

@@ -1,21 +1,18 @@
 -- 01, "When the engine says no": what starting and joining are refused for, in order.
-use Rattle.std.specs.Prelude.{ℕ, ◌≡◌, List, [], ◌∷◌, Bool, true, false, not, cond, ◌||◌, ltb, eqb}
+use Rattle.std.specs.Prelude.{ℕ, List, [], ◌∷◌, Bool, true, false, not, cond, ◌||◌, ltb, eqb}
 use Rattle.bincode.specs.Read.{Read, value, refuse, whole}
 use Rattle.bincode.specs.Outcome.{Outcome, done, refused}
 use Rattle.bincode.specs.Numbers.{fixed}
 use Rattle.bincode.specs.Sizes.{Sizes}
 use Rattle.pub_key_map.specs.declared.Node.{Node}
-use Rattle.pub_key_map.specs.PubKeyMap.{nodes_of, map_held, same_nodes, read_map}
+use Rattle.pub_key_map.specs.declared.PubKeyMap.{PubKeyMap}
+use Rattle.pub_key_map.specs.PubKeyMap.{nodes_of, same_nodes, read_map}
 use Rattle.network_info.specs.NetworkInfo.{is_member}
 use Rattle.honey_badger.specs.EncryptionSchedule.{same_schedule}
 use Rattle.params.specs.declared.Params.{Params}
-use Rattle.params.specs.Params.{no_params, read_params}
+use Rattle.params.specs.Params.{read_params}
 use Rattle.change.specs.Change.{node_change, encryption_schedule, ChangeStateOf, none, in_progress, complete}
-use Rattle.join_plan.specs.JoinPlan.{PlanOf, read_plan, plan_of, plan_held, no_plan}
-use Rattle.joining.specs.declared.StartOutcome.{StartOutcome}
-use Rattle.joining.specs.declared.StartOutcome.TheVariants as start
-use Rattle.joining.specs.declared.Joining.{Joining}
-use Rattle.joining.specs.declared.Starting.{Starting}
+use Rattle.join_plan.specs.JoinPlan.{PlanOf, read_plan}
 
 -- reading goes first: its refusal is the call's
 module _ {A B : Type 0} where
@@ -89,27 +86,6 @@ start_checked z key map params =
     reading (whole (read_params fixed params) params) λ p.
     start_map key ns p
 
--- the answers as code gives them
-module _ {A : Type 0} where
-  abbrev pub said_start : StartOutcome → A → Outcome A
-  said_start start.Accepted a = done a
-  said_start (start.Refused n) a = refused n
-
-abbrev pub joining_of : Joining → Outcome PlanOf
-joining_of r = said_start r.outcome (plan_of r.plan)
-
-abbrev pub starting_of : Starting → Outcome StartOf
-starting_of r = said_start r.outcome (record { keys = nodes_of r.pub_keys; params = r.params })
-
--- beside a refusal stand the empty plan, the empty map and the empty parameters
-abbrev pub no_joining : ℕ → Joining
-no_joining n = record { outcome = start.Refused n; plan = plan_held no_plan }
-
-abbrev pub JoiningRefusedEmpty : Joining → Type 0
-JoiningRefusedEmpty r = (n : ℕ) → r.outcome ≡ start.Refused n → r ≡ no_joining n
-
-abbrev pub no_starting : ℕ → Starting
-no_starting n = record { outcome = start.Refused n; pub_keys = map_held []; params = no_params }
-
-abbrev pub StartingRefusedEmpty : Starting → Type 0
-StartingRefusedEmpty r = (n : ℕ) → r.outcome ≡ start.Refused n → r ≡ no_starting n
+-- the map and the parameters of a start as code holds them
+abbrev pub start_of : PubKeyMap × Params → StartOf
+start_of x = record { keys = nodes_of x.0; params = x.1 }

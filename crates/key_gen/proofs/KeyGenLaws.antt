@@ -1,68 +1,75 @@
--- Laws of flags by index: what a loop over them counts, and how a store into them is seen in the recorded parts.
+-- Laws of flags by index: what a chain over them counts, and how a store into them is seen in the recorded parts.
 -- Assumes nothing.
-use Prim.Native.Nat.{ℕ, zero, suc, ◌+◌, ◌*◌, ◌≤◌, ◌<◌}
+use Prim.Native.Nat.{ℕ, zero, suc, ◌+◌, ◌-◌, ◌*◌, ◌^◌, ◌≤◌, ◌<◌}
 use mathlib.Core.Path.{◌≡◌, refl, sym, ap, ◌∙◌}
 use mathlib.Core.List.{List, [], ◌∷◌}
 use mathlib.Core.Bool.{Bool, true, false, not, cond, ◌&&◌}
 use native.Mathlib.Omega.{arith}
-use native.Mathlib.Numerals.{add-one}
 use native.Mathlib.Nat.{zero-add}
 use lib.Dec.{ltb, eqb}
-use lib.ListN.{length, drop, get_or, set, replicate, get_or-eq_default}
-use lib.Seq.{drop-cons}
+use lib.ListN.{length, get_or, set, replicate, get_or-eq_default}
+use Rattle.std.specs.Prelude.{fold, min}
 use borrow.Author.Tests.{ltb-true, ltb-false, lt-ltb, le-ltb}
 use Rattle.lists.specs.Lists.{found, nothing, lookup, insert, marked, filter}
-use Rattle.lists.proofs.MarkedLaws.{marked_lookup, marked_past, marked_set, marked_yes, marked_no, marked_end}
+use Rattle.lists.proofs.MarkedLaws.{marked_lookup, marked_past, marked_set}
 use Rattle.bincode.specs.Sizes.{base}
 use Rattle.pub_key_map.specs.declared.PubKeyMap.{PubKeyMap}
 use Rattle.pub_key_map.specs.PubKeyMap.{nodes_of}
+use Rattle.network_info.specs.NetworkInfo.{node_index}
+use Rattle.network_info.proofs.IndexLaws.{index_within}
+use Rattle.key_gen.specs.declared.KeyGen.{KeyGen}
 use Rattle.key_gen.specs.declared.Proposal.{Proposal}
-use Rattle.key_gen.specs.KeyGen.{ProposalOf, KeyGenOf, Effect, quiet, indices, is_here, acked, proposal_at, by_proposer, is_recorded, parts_of, no_proposal, key_gen_of, fresh_held, with_parts, observes, complete, handled, row_effect, value_effect, record_part, record_ack}
+use Rattle.key_gen.specs.KeyGen.{ProposalOf, KeyGenOf, Effect, quiet, indices, is_here, acked, proposal_at, by_proposer, is_recorded, parts_of, no_proposal, key_gen_of, fresh_held, with_parts, observes, complete, complete_at, complete_found, handled, row_effect, value_effect, record_part, record_ack}
 
--- turns of a loop that counts marked elements, all of them or those of which a test holds
-module _ {A B : Type 0} (size : List B → ℕ) (mark : A → Bool) (view : ℕ → A → B) (xs : List A) (i count n : ℕ) where
-  module _ (z : A) (h : i < length xs) (e : count + size (marked mark view i (drop i xs)) ≡ n) where
-    rest : drop i xs ≡ get_or xs i z ∷ drop (i + 1) xs
-    rest = rw (add-one, drop-cons xs i z h)
+-- what a chain counts from a on: the marked elements
+module _ {A B : Type 0} (mark : A → Bool) (view : ℕ → A → B) where
+  pub marked_counted : (xs : List A) (i a : ℕ) → fold (λ n x. n + cond (mark x) 1 0) a xs ≡ a + length (marked mark view i xs)
+  unfolding marked
+  marked_counted [] i a = omega arith
+  marked_counted (x ∷ xs) i a = go (mark x) (marked_counted xs (suc i) (a + cond (mark x) 1 0))
+    where
+      go : (b : Bool) {n : ℕ} → n ≡ a + cond b 1 0 + length (marked mark view (suc i) xs) → n ≡ a + length (cond b (view i x ∷ marked mark view (suc i) xs) (marked mark view (suc i) xs))
+      go true e = omega (arith, e)
+      go false e = omega (arith, e)
 
-    pub count_more : mark (get_or xs i z) ≡ true → ((ys : List B) → size (view i (get_or xs i z) ∷ ys) ≡ suc (size ys)) → count + 1 + size (marked mark view (i + 1) (drop (i + 1) xs)) ≡ n
-    count_more m s =
-        let f = ap size (marked_yes mark view xs i (get_or xs i z) rest m) ∙ s (marked mark view (i + 1) (drop (i + 1) xs)) in
-        omega (arith, f)
+  pub marked_within : (xs : List A) (i : ℕ) → length (marked mark view i xs) ≤ length xs
+  unfolding marked
+  marked_within [] i = omega arith
+  marked_within (x ∷ xs) i = go (mark x) (marked_within xs (suc i))
+    where
+      go : (b : Bool) → length (marked mark view (suc i) xs) ≤ length xs → length (cond b (view i x ∷ marked mark view (suc i) xs) (marked mark view (suc i) xs)) ≤ suc (length xs)
+      go true e = omega arith
+      go false e = omega arith
 
-    pub count_same : mark (get_or xs i z) ≡ true → ((ys : List B) → size (view i (get_or xs i z) ∷ ys) ≡ size ys) → count + size (marked mark view (i + 1) (drop (i + 1) xs)) ≡ n
-    count_same m s =
-        let f = ap size (marked_yes mark view xs i (get_or xs i z) rest m) ∙ s (marked mark view (i + 1) (drop (i + 1) xs)) in
-        omega (arith, f)
+-- a part is complete as it is held
+module _ (t : ℕ) (p : Proposal) where
+  pub complete_held : (m n : ℕ) → m ≡ min (t * 2) (2 ^ 64 - 1) → n ≡ length (indices p.acks) → n ≤ base.nodes → p.recorded ≡ true → ltb m n ≡ complete_at t p
+  unfolding complete_at
+  complete_held m n s e h r = rw r (go (ltb (2 * t) (length (indices p.acks))) refl)
+    where
+      go : (b : Bool) → ltb (2 * t) (length (indices p.acks)) ≡ b → ltb m n ≡ b
+      go true f = lt-ltb m n (omega (arith, ltb-true (2 * t) (length (indices p.acks)) f))
+      go false f = le-ltb m n (omega (arith, ltb-false (2 * t) (length (indices p.acks)) f))
 
-    pub count_none : mark (get_or xs i z) ≡ false → count + size (marked mark view (i + 1) (drop (i + 1) xs)) ≡ n
-    count_none m = omega (arith, ap size (marked_no mark view xs i (get_or xs i z) rest m))
+  pub complete_found_at : (i : ℕ) → complete_found t (cond p.recorded (found (proposal_at i p)) nothing) ≡ complete_at t p
+  unfolding complete complete_at
+  complete_found_at i = go p.recorded
+    where
+      go : (b : Bool) → complete_found t (cond b (found (proposal_at i p)) nothing) ≡ cond b (ltb (2 * t) (length (indices p.acks))) false
+      go true = refl
+      go false = refl
 
-  pub count_end : size [] ≡ 0 → length xs ≤ i → count + size (marked mark view i (drop i xs)) ≡ n → count ≡ n
-  count_end s h e = omega (arith, ap size (marked_end mark view xs i h))
-
--- a part with n acknowledgers is complete, or not
-module _ (t n : ℕ) (q : ProposalOf) (e : n ≡ length q.acks) where
-  pub complete_yes : 2 * t < n → complete t q ≡ true
-  unfolding complete
-  complete_yes h = lt-ltb (2 * t) (length q.acks) (omega arith)
-
-  pub complete_no : n ≤ 2 * t → complete t q ≡ false
-  unfolding complete
-  complete_no h = le-ltb (2 * t) (length q.acks) (omega arith)
-
--- how many parts are complete, and how one more changes it
-abbrev pub completed : ℕ → List ProposalOf → ℕ
-completed t qs = length (filter (complete t) qs)
-
-module _ (t n : ℕ) (q : ProposalOf) (e : n ≡ length q.acks) (qs : List ProposalOf) where
-  pub complete_more : 2 * t < n → completed t (q ∷ qs) ≡ suc (completed t qs)
-  unfolding filter
-  complete_more h = rw (complete_yes t n q e h)
-
-  pub complete_same : n ≤ 2 * t → completed t (q ∷ qs) ≡ completed t qs
-  unfolding filter
-  complete_same h = rw (complete_no t n q e h)
+-- the complete ones of the recorded parts are those that are complete as they are held
+pub complete_parts : (t : ℕ) (ps : List Proposal) (i : ℕ) → filter (complete t) (marked is_recorded proposal_at i ps) ≡ marked (complete_at t) proposal_at i ps
+unfolding marked filter complete complete_at
+complete_parts t [] i = refl
+complete_parts t (p ∷ ps) i = go p.recorded (complete_parts t ps (suc i))
+  where
+    go : (b : Bool) → filter (complete t) (marked is_recorded proposal_at (suc i) ps) ≡ marked (complete_at t) proposal_at (suc i) ps
+        → filter (complete t) (cond b (proposal_at i p ∷ marked is_recorded proposal_at (suc i) ps) (marked is_recorded proposal_at (suc i) ps))
+        ≡ cond (cond b (ltb (2 * t) (length (indices p.acks))) false) (proposal_at i p ∷ marked (complete_at t) proposal_at (suc i) ps) (marked (complete_at t) proposal_at (suc i) ps)
+    go true e = rw e
+    go false e = e
 
 -- nothing is marked in a fresh array
 module _ {A B : Type 0} (mark : A → Bool) (view : ℕ → A → B) (z : A) (e : mark z ≡ false) where
@@ -139,6 +146,13 @@ module _ (ps : List Proposal) (i : ℕ) where
   part_acked r q j good h e a =
       let f = part_found h q e in
       part_set r h (a.1 ∙ f.0) ∙ ap (λ (x : ProposalOf). insert by_proposer x (parts_of ps)) (a.0 i ∙ ap (λ (x : ProposalOf). acked x j good) f.1)
+
+-- a node of the map has a place in the array, where its recorded part stands, or none
+pub signer_part : (g : KeyGen) (id i : ℕ) → length g.pub_keys.nodes ≡ base.nodes → length g.proposals ≡ base.nodes → node_index (nodes_of g.pub_keys) id ≡ found i
+    → (i < base.nodes) × (lookup by_proposer (parts_of g.proposals) i ≡ cond (get_or g.proposals i blank).recorded (found (proposal_at i (get_or g.proposals i blank))) nothing)
+signer_part g id i k l e =
+    let h : i < base.nodes = omega (arith, (index_within g.pub_keys.nodes g.pub_keys.count i id e).0) in
+    (h, part_lookup g.proposals i (omega arith))
 
 -- what is recorded, with what is told; an observer is told nothing
 module _ (g : KeyGenOf) (v : ℕ) (ps : List ProposalOf) (e : Effect) (b : Bool) (o : observes g ≡ b) where

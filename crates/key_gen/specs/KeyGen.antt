@@ -172,6 +172,10 @@ parts_of = marked is_recorded proposal_at 0
 abbrev pub key_gen_of : KeyGen → KeyGenOf
 key_gen_of g = record { our_id = g.our_id; nodes = nodes_of g.pub_keys; parts = parts_of g.proposals }
 
+-- the part at a place is recorded and complete
+unfoldable pub complete_at : ℕ → Proposal → Bool
+complete_at t p = cond p.recorded (ltb (2 * t) (length (indices p.acks))) false
+
 abbrev pub no_proposal : Proposal
 no_proposal = record { recorded = false; commit = 0; acks = replicate base.nodes false; good = replicate base.nodes false }
 

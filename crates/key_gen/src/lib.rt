@@ -9,10 +9,9 @@ ghost use Rattle.network_info.specs.NetworkInfo.{is_member};
 ghost use Rattle.pub_key_map.specs.PubKeyMap.{nodes_of};
 ghost use Rattle.sync_key_gen.specs.SyncKeyGen.{part_of, ack_of};
 ghost use Rattle.key_gen.specs.KeyGen.{ProposalOf, indices, proposal_at, by_proposer, handled, acked, record_part, record_ack, ack_of_index, key_gen_of};
-ghost use Rattle.key_gen.specs.KeyGen.{fresh_held, no_proposal, row_effect, value_effect, handle_part, handle_ack, count_complete, node_ready, enough, ready, said_outcome};
+ghost use Rattle.key_gen.specs.KeyGen.{fresh_held, no_proposal, complete_at, row_effect, value_effect, handle_part, handle_ack, count_complete, node_ready, enough, ready, said_outcome};
 
 use fault_log::{AckFault, FaultKind, PartFault};
-use network_info::NodeIndex;
 use pub_key_map::PubKeyMap;
 use sync_key_gen::{Ack, Part};
 
@@ -23,6 +22,13 @@ pub struct Proposal {
     pub commit: u64,
     pub acks: [bool; PubKeyMap::LIMIT],
     pub good: [bool; PubKeyMap::LIMIT],
+}
+
+// How many places are marked.
+pub fn count_marked(flags: [bool; PubKeyMap::LIMIT]) -> usize
+    ensures { (result ≡ length (indices flags)) × (result ≤ base.nodes) }
+{
+    flags.iter().filter(|flag| **flag).count()
 }
 
 impl Proposal {
@@ -37,19 +43,11 @@ impl Proposal {
         }
     }
 
-    // How many have acknowledged.
-    fn ack_count(self) -> usize
-        ensures { (result ≡ length (indices self.acks)) × (result ≤ base.nodes) }
+    // Whether its part is recorded and complete: more than twice the threshold have acknowledged.
+    pub fn is_complete(self, threshold: usize) -> bool
+        ensures { result ≡ complete_at threshold self }
     {
-        let mut count: usize = 0;
-        let mut i: usize = 0;
-        while i < PubKeyMap::LIMIT {
-            if self.acks[i] {
-                count += 1;
-            }
-            i += 1;
-        }
-        count
+        self.recorded && threshold.saturating_mul(2) < count_marked(self.acks)
     }
 
     // An acknowledgement of the node with index j, with a good value or without.
@@ -141,11 +139,7 @@ impl KeyGen {
     pub fn observes(self) -> bool
         ensures { result ≡ not (is_member (nodes_of self.pub_keys) self.our_id) }
     {
-        let map = self.pub_keys;
-        if network_info::is_member(map, self.our_id) {
-            return false;
-        }
-        true
+        !network_info::is_member(self.pub_keys, self.our_id)
     }
 
     // How many recorded parts are complete.
@@ -153,46 +147,26 @@ impl KeyGen {
         ensures { (result ≡ count_complete (key_gen_of self)) × (result ≤ base.nodes) }
     {
         let t = self.threshold();
-        let mut count: usize = 0;
-        let mut i: usize = 0;
-        while i < PubKeyMap::LIMIT {
-            let p = self.proposals[i];
-            if p.recorded {
-                if 2 * t < p.ack_count() {
-                    count += 1;
-                }
-            }
-            i += 1;
-        }
-        count
+        self.proposals.iter().filter(|p| p.is_complete(t)).count()
     }
 
     // Whether the node's own part is complete.
     pub fn is_node_ready(self, proposer: u32) -> bool
         ensures { result ≡ node_ready (key_gen_of self) proposer }
     {
-        let map = self.pub_keys;
         let t = self.threshold();
-        let NodeIndex::At(i) = network_info::node_index(map, proposer) else {
+        let Some(i) = network_info::node_index(self.pub_keys, proposer) else {
             return false;
         };
         let p = self.proposals[i];
-        if p.recorded {
-            if 2 * t < p.ack_count() {
-                return true;
-            }
-        }
-        false
+        p.is_complete(t)
     }
 
     // `SyncKeyGen::is_ready`: more than t parts are complete.
     pub fn is_enough(self) -> bool
         ensures { result ≡ enough (key_gen_of self) }
     {
-        if self.threshold() < self.count_complete() {
-            return true;
-        }
-        false
+        self.threshold() < self.count_complete()
     }
 
     // `KeyGenState::is_ready`: and more than two thirds of the nodes' parts.
@@ -200,14 +174,7 @@ impl KeyGen {
         ensures { result ≡ ready (key_gen_of self) }
     {
         let map = self.pub_keys;
-        let n = map.len();
-        let count = self.count_complete();
-        if self.is_enough() {
-            if 2 * n < 3 * count {
-                return true;
-            }
-        }
-        false
+        self.is_enough() && 2 * map.len() < 3 * self.count_complete()
     }
 
     // A part of the node with index i that was not recorded: it is, before its verdict is looked at.
@@ -237,7 +204,7 @@ impl KeyGen {
         ensures { handled (key_gen_of result.key_gen) (said_outcome result.outcome) ≡ handle_part (key_gen_of self) signer (part_of part) verdict }
     {
         let map = self.pub_keys;
-        let NodeIndex::At(i) = network_info::node_index(map, signer) else {
+        let Some(i) = network_info::node_index(map, signer) else {
             return KeyHandled {
                 key_gen: self,
                 outcome: KeyOutcome::Faulty(FaultKind::UnexpectedKeyGenPart),
@@ -295,7 +262,7 @@ impl KeyGen {
         ensures { handled (key_gen_of result.key_gen) (said_outcome result.outcome) ≡ handle_ack (key_gen_of self) signer (ack_of ack) verdict }
     {
         let map = self.pub_keys;
-        let NodeIndex::At(j) = network_info::node_index(map, signer) else {
+        let Some(j) = network_info::node_index(map, signer) else {
             return KeyHandled {
                 key_gen: self,
                 outcome: KeyOutcome::Faulty(FaultKind::UnexpectedKeyGenAck),

@@ -4,15 +4,12 @@ use Rattle.bincode.specs.Read.{Read, value, refuse, bind}
 use Rattle.bincode.specs.Numbers.{read_num, bytes_of}
 use Rattle.bincode.specs.Sizes.{Sizes}
 use Rattle.bincode.specs.Stands.{concat}
-use Rattle.bincode.specs.Answer.{step_of, held_of}
 use Rattle.sync_key_gen.specs.declared.Handles.{Handles}
 use Rattle.sync_key_gen.specs.SyncKeyGen.{PartOf, AckOf, handles_of, handles_held, same_handles, handles_bytes, read_part, read_ack, no_part, PartOk, AckOk}
 use Rattle.key_gen_message.specs.declared.KeyGenKind.{KeyGenKind}
 use Rattle.key_gen_message.specs.declared.KeyGenKind.TheVariants.{Part, Ack}
 use Rattle.key_gen_message.specs.declared.KeyGenMessage.{KeyGenMessage}
 use Rattle.key_gen_message.specs.declared.SignedKeyGenMsg.{SignedKeyGenMsg}
-use Rattle.key_gen_message.specs.declared.ReadMessage.{ReadMessage}
-use Rattle.key_gen_message.specs.declared.ReadSigned.{ReadSigned}
 
 pub data KeyGenMessageOf : Type 0 where
   part : PartOf → KeyGenMessageOf
@@ -42,7 +39,7 @@ signed_of x = record { era = x.era; id = x.id; message = message_of x.message; s
 abbrev pub signed_held : SignedKeyGenMsgOf → SignedKeyGenMsg
 signed_held x = record { era = x.era; id = x.id; message = message_held x.message; sig = x.sig }
 
--- what stands where no message is held, and beside a refusal
+-- what stands where no message is held
 abbrev pub no_message : KeyGenMessageOf
 no_message = part no_part
 
@@ -100,10 +97,3 @@ pub record SignedOk (z : Sizes) (x : SignedKeyGenMsgOf) : Type 0 where
   pub id_fits : x.id < 256 ^ 4
   pub message_ok : MessageOk z x.message
   pub sig_fits : x.sig < 256 ^ 8
-
--- the answers as code gives them
-abbrev pub message_answer : Read KeyGenMessageOf → ReadMessage
-message_answer x = record { step = step_of x; message = held_of message_held (message_held no_message) x }
-
-abbrev pub signed_answer : Read SignedKeyGenMsgOf → ReadSigned
-signed_answer x = record { step = step_of x; signed = held_of signed_held (signed_held no_signed) x }

@@ -2,16 +2,15 @@
 #![tactic(auto)]
 
 ghost use Rattle.std.specs.Prelude.{◌≡◌, ◌+◌, ◌*◌, ◌≤◌, length};
-ghost use Rattle.bincode.specs.Read.{refuse, map_read};
-ghost use Rattle.bincode.specs.Answer.{said64};
+ghost use Rattle.bincode.specs.Answer.{answer};
 ghost use Rattle.bincode.specs.Sizes.{base};
 ghost use Rattle.bincode.specs.Writing.{written, written_to};
 ghost use Rattle.sync_key_gen.specs.SyncKeyGen.{part_of, ack_of, handles_of, read_handles};
-ghost use Rattle.key_gen_message.specs.Head.{body_of, said_body, head_answer};
-ghost use Rattle.key_gen_message.specs.KeyGenMessage.{part, ack, message_of, message_held, no_message, same_headed, same_message, read_key_gen_message, message_answer};
-ghost use Rattle.key_gen_message.specs.KeyGenMessage.{tagged_bytes, message_bytes, signed_of, signed_held, no_signed, same_signed, read_signed_key_gen_msg, signed_answer, signed_bytes};
+ghost use Rattle.key_gen_message.specs.Head.{body_of, head_of};
+ghost use Rattle.key_gen_message.specs.KeyGenMessage.{part, ack, message_of, message_held, no_message, same_headed, same_message, read_key_gen_message};
+ghost use Rattle.key_gen_message.specs.KeyGenMessage.{tagged_bytes, message_bytes, signed_of, signed_held, no_signed, same_signed, read_signed_key_gen_msg, signed_bytes};
 
-use bincode::{ReadU32, ReadU64, Step};
+use bincode::Refusal;
 use sync_key_gen::{Ack, Handles, Part};
 
 // A part with its commitment, or an ack with its proposer's index.
@@ -82,10 +81,7 @@ impl KeyGenMessage {
 fn same_headed(x: u64, xs: Handles, y: u64, ys: Handles) -> bool
     ensures { result ≡ same_headed x (handles_of xs) y (handles_of ys) }
 {
-    if x != y {
-        return false;
-    }
-    xs.same(ys)
+    x == y && xs.same(ys)
 }
 
 // Era, signer, message, signature, as the Rust's tuple struct has them.
@@ -109,122 +105,62 @@ impl SignedKeyGenMsg {
         }
     }
 
+    #[tactic(auto, unfolding(crate::specs::KeyGenMessage::same_signed))]
     pub fn same(self, other: SignedKeyGenMsg) -> bool
         ensures { result ≡ same_signed (signed_of self) (signed_of other) }
     {
-        if self.era != other.era {
-            return false;
+        self.era == other.era
+            && self.id == other.id
+            && self.sig == other.sig
+            && self.message.same(other.message)
+    }
+}
+
+pub fn read_message(s: &[u8], at: usize) -> Result<(KeyGenMessage, usize), Refusal>
+    ensures { result ≡ answer message_held (read_key_gen_message base s.now at) }
+{
+    let Ok((tag, c)) = bincode::read_u32(s, at) else {
+        return Err(Refusal::Malformed);
+    };
+    match tag {
+        0 => {
+            let (p, d) = sync_key_gen::read_part(s, c)?;
+            let handles = p.rows;
+            let kind = KeyGenKind::Part(p.commit);
+            Ok((KeyGenMessage { kind, handles }, d))
         }
-        if self.id != other.id {
-            return false;
+        1 => {
+            let (a, d) = sync_key_gen::read_ack(s, c)?;
+            let handles = a.values;
+            let kind = KeyGenKind::Ack(a.proposer);
+            Ok((KeyGenMessage { kind, handles }, d))
         }
-        if self.sig != other.sig {
-            return false;
-        }
-        let a = self.message;
-        let b = other.message;
-        a.same(b)
+        _ => Err(Refusal::Malformed),
     }
 }
 
-#[derive(Clone, Copy)]
-pub struct ReadMessage {
-    pub step: Step,
-    pub message: KeyGenMessage,
-}
-
-#[derive(Clone, Copy)]
-pub struct ReadSigned {
-    pub step: Step,
-    pub signed: SignedKeyGenMsg,
-}
-
-fn refused_message(n: u8) -> ReadMessage
-    ensures { result ≡ message_answer (refuse n) }
+pub fn read_signed(s: &[u8], at: usize) -> Result<(SignedKeyGenMsg, usize), Refusal>
+    ensures { result ≡ answer signed_held (read_signed_key_gen_msg base s.now at) }
 {
-    ReadMessage {
-        step: Step::Refused(n),
-        message: KeyGenMessage::empty(),
-    }
-}
-
-pub fn read_message(s: &[u8], at: usize) -> ReadMessage
-    ensures { result ≡ message_answer (read_key_gen_message base s.now at) }
-{
-    let ReadU32::Value(tag, c) = bincode::read_u32(s, at) else {
-        return refused_message(2);
+    let Ok((era, a)) = bincode::read_u64(s, at) else {
+        return Err(Refusal::Malformed);
     };
-    if tag == 0 {
-        let r = sync_key_gen::read_part(s, c);
-        let step = r.step;
-        let p = r.part;
-        let Step::Next(d) = step else {
-            return refused_message(step.number());
-        };
-        let handles = p.rows;
-        return ReadMessage {
-            step: Step::Next(d),
-            message: KeyGenMessage {
-                kind: KeyGenKind::Part(p.commit),
-                handles,
-            },
-        };
-    }
-    if tag == 1 {
-        let r = sync_key_gen::read_ack(s, c);
-        let step = r.step;
-        let a = r.ack;
-        let Step::Next(d) = step else {
-            return refused_message(step.number());
-        };
-        let handles = a.values;
-        return ReadMessage {
-            step: Step::Next(d),
-            message: KeyGenMessage {
-                kind: KeyGenKind::Ack(a.proposer),
-                handles,
-            },
-        };
-    }
-    refused_message(2)
-}
-
-fn refused_signed(n: u8) -> ReadSigned
-    ensures { result ≡ signed_answer (refuse n) }
-{
-    ReadSigned {
-        step: Step::Refused(n),
-        signed: SignedKeyGenMsg::empty(),
-    }
-}
-
-pub fn read_signed(s: &[u8], at: usize) -> ReadSigned
-    ensures { result ≡ signed_answer (read_signed_key_gen_msg base s.now at) }
-{
-    let ReadU64::Value(era, a) = bincode::read_u64(s, at) else {
-        return refused_signed(2);
+    let Ok((id, b)) = bincode::read_u32(s, a) else {
+        return Err(Refusal::Malformed);
     };
-    let ReadU32::Value(id, b) = bincode::read_u32(s, a) else {
-        return refused_signed(2);
+    let (message, c) = read_message(s, b)?;
+    let Ok((sig, d)) = bincode::read_u64(s, c) else {
+        return Err(Refusal::Malformed);
     };
-    let r = read_message(s, b);
-    let step = r.step;
-    let message = r.message;
-    let Step::Next(c) = step else {
-        return refused_signed(step.number());
-    };
-    let ReadU64::Value(sig, d) = bincode::read_u64(s, c) else {
-        return refused_signed(2);
-    };
-    ReadSigned {
-        step: Step::Next(d),
-        signed: SignedKeyGenMsg {
+    Ok((
+        SignedKeyGenMsg {
             era,
             id,
             message,
             sig,
         },
-    }
+        d,
+    ))
 }
 
 // Whether a message is a part, its commitment or proposer's index, and how many rows or values it has.
@@ -233,12 +169,6 @@ pub struct Body {
     pub part: bool,
     pub first: u64,
     pub count: u64,
-}
-
-#[derive(Clone, Copy)]
-pub enum ReadBody {
-    Value(Body, usize),
-    Refused(u8),
 }
 
 // A signed message without its rows or values.
@@ -252,100 +182,71 @@ pub struct MessageHead {
     pub sig: u64,
 }
 
-#[derive(Clone, Copy)]
-pub struct ReadHead {
-    pub step: Step,
-    pub head: MessageHead,
-}
-
 // How many rows or values there are: they are any numbers, so their room alone is tested.
-fn skip_handles(s: &[u8], at: usize) -> ReadU64
-    ensures { said64 result ≡ map_read length (read_handles base s.now at) }
+fn skip_handles(s: &[u8], at: usize) -> Result<(u64, usize), Refusal>
+    ensures { result ≡ answer length (read_handles base s.now at) }
 {
-    let ReadU64::Value(n, c) = bincode::read_u64(s, at) else {
-        return ReadU64::Refused(2);
+    let Ok((n, c)) = bincode::read_u64(s, at) else {
+        return Err(Refusal::Malformed);
     };
     if (Handles::LIMIT as u64) < n {
-        return ReadU64::Refused(3);
+        return Err(Refusal::TooLarge);
     }
     let size = 8 * (n as usize);
-    if bincode::room(s.len(), c, size) {
-        ReadU64::Value(n, c + size)
-    } else {
-        ReadU64::Refused(2)
+    if !bincode::room(s.len(), c, size) {
+        return Err(Refusal::Malformed);
     }
+    Ok((n, c + size))
 }
 
-fn read_body(s: &[u8], at: usize) -> ReadBody
-    ensures { said_body result ≡ map_read body_of (read_key_gen_message base s.now at) }
+fn read_body(s: &[u8], at: usize) -> Result<(Body, usize), Refusal>
+    ensures { result ≡ answer body_of (read_key_gen_message base s.now at) }
 {
-    let ReadU32::Value(tag, c) = bincode::read_u32(s, at) else {
-        return ReadBody::Refused(2);
+    let Ok((tag, c)) = bincode::read_u32(s, at) else {
+        return Err(Refusal::Malformed);
     };
     if 1 < tag {
-        return ReadBody::Refused(2);
+        return Err(Refusal::Malformed);
     }
-    let ReadU64::Value(first, d) = bincode::read_u64(s, c) else {
-        return ReadBody::Refused(2);
+    let Ok((first, d)) = bincode::read_u64(s, c) else {
+        return Err(Refusal::Malformed);
     };
-    match skip_handles(s, d) {
-        ReadU64::Value(count, e) => ReadBody::Value(
-            Body {
-                part: tag == 0,
-                first,
-                count,
-            },
-            e,
-        ),
-        ReadU64::Refused(k) => ReadBody::Refused(k),
-    }
-}
-
-fn refused_head(n: u8) -> ReadHead
-    ensures { result ≡ head_answer (refuse n) }
-{
-    ReadHead {
-        step: Step::Refused(n),
-        head: MessageHead {
-            era: 0,
-            id: 0,
-            part: true,
-            first: 0,
-            count: 0,
-            sig: 0,
+    let (count, e) = skip_handles(s, d)?;
+    Ok((
+        Body {
+            part: tag == 0,
+            first,
+            count,
         },
-    }
+        e,
+    ))
 }
 
 // Rows and values are tested and not kept, so that no array is copied where the numbers alone are asked for.
-pub fn read_head(s: &[u8], at: usize) -> ReadHead
-    ensures { result ≡ head_answer (read_signed_key_gen_msg base s.now at) }
+pub fn read_head(s: &[u8], at: usize) -> Result<(MessageHead, usize), Refusal>
+    ensures { result ≡ answer head_of (read_signed_key_gen_msg base s.now at) }
 {
-    let ReadU64::Value(era, a) = bincode::read_u64(s, at) else {
-        return refused_head(2);
+    let Ok((era, a)) = bincode::read_u64(s, at) else {
+        return Err(Refusal::Malformed);
     };
-    let ReadU32::Value(id, b) = bincode::read_u32(s, a) else {
-        return refused_head(2);
+    let Ok((id, b)) = bincode::read_u32(s, a) else {
+        return Err(Refusal::Malformed);
     };
-    match read_body(s, b) {
-        ReadBody::Value(body, c) => {
-            let ReadU64::Value(sig, d) = bincode::read_u64(s, c) else {
-                return refused_head(2);
-            };
-            ReadHead {
-                step: Step::Next(d),
-                head: MessageHead {
-                    era,
-                    id,
-                    part: body.part,
-                    first: body.first,
-                    count: body.count,
-                    sig,
-                },
-            }
-        }
-        ReadBody::Refused(k) => refused_head(k),
-    }
+    let (body, c) = read_body(s, b)?;
+    let Ok((sig, d)) = bincode::read_u64(s, c) else {
+        return Err(Refusal::Malformed);
+    };
+    Ok((
+        MessageHead {
+            era,
+            id,
+            part: body.part,
+            first: body.first,
+            count: body.count,
+            sig,
+        },
+        d,
+    ))
 }
 
 // How many bytes a message takes.

@@ -17,15 +17,7 @@ use Rattle.key_gen_state.specs.KeyGenState.{KeyGenStateOf, CountedOf, raised, se
 use Rattle.key_gen_state.specs.LentCounts.{nodes_up_to, raised_at, count_at, CountRaised, placed, place_of}
 use Rattle.key_gen_state.proofs.CountLaws.{place_within}
 
--- a number of nodes is no higher than a map has places
-pub nodes_le : (z : Sizes) (n : ℕ) → nodes_up_to z n ≤ z.nodes
-nodes_le z n = go (ltb n z.nodes) refl
-  where
-    go : (b : Bool) → ltb n z.nodes ≡ b → cond b n z.nodes ≤ z.nodes
-    go true e = omega (arith, ltb-true n z.nodes e)
-    go false e = omega arith
-
--- and that of any map is the number itself
+-- a number of nodes of any map is no higher than a map has places: it is the number itself
 pub nodes_same : (z : Sizes) (n : ℕ) → n ≤ z.nodes → nodes_up_to z n ≡ n
 nodes_same z n h = go (ltb n z.nodes) refl
   where

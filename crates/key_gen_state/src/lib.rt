@@ -10,7 +10,6 @@ ghost use Rattle.key_gen_state.specs.KeyGenState.{state_of, running_of, no_key_g
 ghost use Rattle.key_gen_state.specs.LentCounts.{nodes_up_to, CountRaised, place_of, counts_put};
 
 use key_gen::KeyGen;
-use network_info::NodeIndex;
 use pub_key_map::PubKeyMap;
 
 // Counts by place: the nodes of the candidate map, then those of the current one.
@@ -59,13 +58,13 @@ fn sender_place(state: KeyGenState, current: PubKeyMap, sender: u32) -> usize
 {
     let key_gen = state.key_gen;
     let candidate = key_gen.pub_keys;
-    let NodeIndex::At(i) = network_info::node_index(candidate, sender) else {
-        let NodeIndex::At(j) = network_info::node_index(current, sender) else {
-            return MessageCounts::LIMIT;
-        };
+    if let Some(i) = network_info::node_index(candidate, sender) {
+        return i;
+    }
+    if let Some(j) = network_info::node_index(current, sender) {
         return PubKeyMap::LIMIT + j;
-    };
-    i
+    }
+    MessageCounts::LIMIT
 }
 
 // How many nodes the candidate map has.
@@ -89,10 +88,7 @@ fn with_counts(mut state: KeyGenState, counts: MessageCounts, count: u8) -> Coun
 fn nodes_up_to(n: usize) -> usize
     ensures { result ≡ nodes_up_to base n }
 {
-    if n < PubKeyMap::LIMIT {
-        return n;
-    }
-    PubKeyMap::LIMIT
+    n.min(PubKeyMap::LIMIT)
 }
 
 // One more, but not past the number of nodes and two.
@@ -159,11 +155,8 @@ impl KeyGenState {
     pub fn is_ready(self) -> bool
         ensures { result ≡ ready_state (state_of self) }
     {
-        if self.running {
-            let key_gen = self.key_gen;
-            return key_gen.is_ready();
-        }
-        false
+        let key_gen = self.key_gen;
+        self.running && key_gen.is_ready()
     }
 
     // Raises the sender's count in the record of counts, which is lent, and answers it; 0 for a sender that is in neither map.

@@ -1,7 +1,9 @@
 pub mod ListLaws
+pub mod EqLaws
 pub mod SortedLaws
 pub mod MarkedLaws
 pub mod KeptLaws
 pub mod FilterLaws
 pub mod PlaceLaws
 pub mod ViewLaws
+pub mod ShiftLaws

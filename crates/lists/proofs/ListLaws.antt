@@ -112,18 +112,3 @@ module _ {A : Type 0} where
     unfolding eq_list
     eq_list_refl one [] = refl
     eq_list_refl one (x ∷ xs) = rw (one x) (eq_list_refl one xs)
-
-    -- turns of a loop that compares place by place
-    module _ (xs ys : List A) (i : ℕ) where
-      module _ (x y : A) (hx : drop i xs ≡ x ∷ drop (i + 1) xs) (hy : drop i ys ≡ y ∷ drop (i + 1) ys) where
-        pub eq_turn : eq x y ≡ true → eq_list eq (drop i xs) (drop i ys) ≡ eq_list eq (drop (i + 1) xs) (drop (i + 1) ys)
-        unfolding eq_list
-        eq_turn e = rw (hx, hy, e)
-
-        pub eq_stop : eq x y ≡ false → eq_list eq (drop i xs) (drop i ys) ≡ false
-        unfolding eq_list
-        eq_stop e = rw (hx, hy, e)
-
-      pub eq_end : length xs ≤ i → length ys ≤ i → eq_list eq (drop i xs) (drop i ys) ≡ true
-      unfolding eq_list
-      eq_end h k = rw (rest_none xs i h, rest_none ys i k)

@@ -84,18 +84,3 @@ module _ {A B : Type 0} (mark : A → Bool) (view : ℕ → A → B) (key : B �
           ≡ insert key (view (suc i + k) a) (cond b (view i x ∷ marked mark view (suc i) xs) (marked mark view (suc i) xs))
       go true e = rw (keyed i x, keyed (suc i + k) a, lt-ltb i (suc i + k) (omega arith)) (ap (λ (ys : List B). view i x ∷ ys) e)
       go false e = e
-
--- turns of a loop over the places
-module _ {A B : Type 0} (mark : A → Bool) (view : ℕ → A → B) (xs : List A) (i : ℕ) where
-  module _ (x : A) (h : drop i xs ≡ x ∷ drop (i + 1) xs) where
-    pub marked_yes : mark x ≡ true → marked mark view i (drop i xs) ≡ view i x ∷ marked mark view (i + 1) (drop (i + 1) xs)
-    unfolding marked
-    marked_yes e = rw (h, e, add-one)
-
-    pub marked_no : mark x ≡ false → marked mark view i (drop i xs) ≡ marked mark view (i + 1) (drop (i + 1) xs)
-    unfolding marked
-    marked_no e = rw (h, e, add-one)
-
-  pub marked_end : length xs ≤ i → marked mark view i (drop i xs) ≡ []
-  unfolding marked
-  marked_end l = rw (rest_none xs i l)

@@ -140,12 +140,6 @@ module _ {A : Type 0} (xs : List A) (n : ℕ) (h : n < length xs) where
       let moved : set ys (j + 1) v ≡ take (j + 1) xs ++ (v ∷ rest) = ap (λ (l : List A). set l (j + 1) v) s.1 ∙ set_at (take (j + 1) xs) s.0 rest v (j + 1) front in
       (v, rw (at_j, moved, one, append_assoc, next))
 
-  -- the same turn where the loop counts down
-  pub shift_down : (j : ℕ) (ys : List A) (z : A) → 0 < j → j ≤ n → Shifted j ys → Shifted (j - 1) (set ys j (get_or ys (j - 1) z))
-  shift_down j ys z l k s =
-      let e : (j - 1) + 1 ≡ j = omega arith in
-      rw e at (shift_more (j - 1) ys z (omega arith) (rw e s))
-
   pub shift_done : (j : ℕ) (ys : List A) (a : A) → j ≤ n → Shifted j ys → take (n + 1) (set ys j a) ≡ take j (take n xs) ++ (a ∷ drop j (take n xs))
   shift_done j ys a l s =
       let rest = drop j (take n xs) in

@@ -1,5 +1,6 @@
 -- Lists that code holds as an array with a count; equality; what is found by a key, and lists that are sorted by one.
-use Rattle.std.specs.Prelude.{ℕ, zero, suc, ◌-◌, List, [], ◌∷◌, ◌++◌, Bool, true, false, cond, ◌&&◌, length, replicate, ltb, eqb}
+use Rattle.std.specs.Prelude.{ℕ, zero, suc, ◌-◌, List, [], ◌∷◌, ◌++◌, Bool, true, false, cond, ◌&&◌, length, replicate, ltb, eqb, Some, None}
+use Rattle.std.specs.declared.option.Option.{Option}
 
 module _ {A : Type 0} where
   -- a list as an array of n places holds it: the places behind it are empty
@@ -30,6 +31,12 @@ module _ {A B : Type 0} (f : A → B) where
   abbrev pub map_found : Found A → Found B
   map_found (found a) = found (f a)
   map_found nothing = nothing
+
+-- an `Option` as what is found, with the element seen through f
+module _ {A B : Type 0} (f : A → B) where
+  abbrev pub option_as_found : Option A → Found B
+  option_as_found (Some a) = found (f a)
+  option_as_found None = nothing
 
 module _ {A : Type 0} (key : A → ℕ) where
   -- the first element with the key

@@ -1,4 +1,4 @@
--- Laws of messages: the length in bytes.
+-- Laws of messages: the length in bytes, and the number of a refusal.
 -- Assumes nothing.
 use Prim.Native.Nat.{ℕ, ◌+◌}
 use mathlib.Core.Path.{◌≡◌}

@@ -4,7 +4,6 @@ use Rattle.bincode.specs.Read.{Read, value, refuse, bind}
 use Rattle.bincode.specs.Numbers.{read_num, bytes_of}
 use Rattle.bincode.specs.Sizes.{Sizes}
 use Rattle.bincode.specs.Stands.{concat}
-use Rattle.bincode.specs.Answer.{step_of, held_of}
 use Rattle.votes.specs.declared.SignedVote as votes
 use Rattle.votes.specs.Votes.{SignedVoteOf, signed_of, signed_held, no_signed, read_signed_vote, signed_bytes, SignedVoteOk}
 use Rattle.key_gen_message.specs.declared.KeyGenMessage.{KeyGenMessage}
@@ -12,7 +11,6 @@ use Rattle.key_gen_message.specs.KeyGenMessage.{KeyGenMessageOf, message_of, mes
 use Rattle.message.specs.declared.MessageKind.{MessageKind}
 use Rattle.message.specs.declared.MessageKind.TheVariants.{KeyGen, SignedVote}
 use Rattle.message.specs.declared.Message.{Message}
-use Rattle.message.specs.declared.ReadMessage.{ReadMessage}
 
 -- era, message and signature; or a signed vote
 pub data MessageContent : Type 0 where
@@ -64,10 +62,3 @@ content_bytes (signed_vote vote) = concat (bytes_of 4 2 ∷ signed_bytes vote �
 abbrev pub ContentOk : Sizes → MessageContent → Type 0
 ContentOk z (key_gen era message sig) = (era < 256 ^ 8) × MessageOk z message × (sig < 256 ^ 8)
 ContentOk z (signed_vote vote) = SignedVoteOk z vote
-
--- the answer as code gives it
-abbrev pub no_content : MessageContent
-no_content = key_gen 0 no_message 0
-
-abbrev pub content_answer : Read MessageContent → ReadMessage
-content_answer x = record { step = step_of x; message = held_of content_held (content_held no_content) x }

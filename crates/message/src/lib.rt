@@ -2,14 +2,15 @@
 #![tactic(auto)]
 
 ghost use Rattle.std.specs.Prelude.{◌≡◌, ◌+◌, ◌*◌, ◌≤◌, length};
-ghost use Rattle.bincode.specs.Read.{refuse, whole};
+ghost use Rattle.bincode.specs.Read.{whole};
+ghost use Rattle.bincode.specs.Answer.{answer};
 ghost use Rattle.bincode.specs.Sizes.{base};
 ghost use Rattle.bincode.specs.Writing.{written, written_to};
 ghost use Rattle.votes.specs.Votes.{signed_of};
 ghost use Rattle.key_gen_message.specs.KeyGenMessage.{message_of};
-ghost use Rattle.message.specs.Message.{key_gen, signed_vote, content_of, key_gen_held, vote_held, read_key_gen, read_vote, read_message, content_answer, content_bytes};
+ghost use Rattle.message.specs.Message.{key_gen, signed_vote, content_of, key_gen_held, vote_held, content_held, read_key_gen, read_vote, read_message, content_bytes};
 
-use bincode::{ReadU32, ReadU64, Step};
+use bincode::Refusal;
 use key_gen_message::KeyGenMessage;
 use votes::SignedVote;
 
@@ -55,80 +56,31 @@ impl Message {
     }
 }
 
-#[derive(Clone, Copy)]
-pub struct ReadMessage {
-    pub step: Step,
-    pub message: Message,
+fn read_key_gen(s: &[u8], at: usize) -> Result<(Message, usize), Refusal>
+    ensures { result ≡ answer content_held (read_key_gen base s.now at) }
+{
+    let Ok((era, c)) = bincode::read_u64(s, at) else {
+        return Err(Refusal::Malformed);
+    };
+    let (message, d) = key_gen_message::read_message(s, c)?;
+    let Ok((sig, e)) = bincode::read_u64(s, d) else {
+        return Err(Refusal::Malformed);
+    };
+    Ok((Message::of_key_gen(era, message, sig), e))
 }
 
-fn refused(n: u8) -> ReadMessage
-    ensures { result ≡ content_answer (refuse n) }
+fn read_vote(s: &[u8], at: usize) -> Result<(Message, usize), Refusal>
+    ensures { result ≡ answer content_held (read_vote base s.now at) }
 {
-    ReadMessage {
-        step: Step::Refused(n),
-        message: Message {
-            kind: MessageKind::KeyGen,
-            era: 0,
-            message: KeyGenMessage::empty(),
-            sig: 0,
-            vote: SignedVote::empty(),
-        },
-    }
+    let (vote, c) = votes::read_signed_vote(s, at)?;
+    Ok((Message::of_vote(vote), c))
 }
 
-fn read_key_gen(s: &[u8], at: usize) -> ReadMessage
-    ensures { result ≡ content_answer (read_key_gen base s.now at) }
+pub fn read_message(s: &[u8], at: usize) -> Result<(Message, usize), Refusal>
+    ensures { result ≡ answer content_held (read_message base s.now at) }
 {
-    let ReadU64::Value(era, c) = bincode::read_u64(s, at) else {
-        return refused(2);
-    };
-    let r = key_gen_message::read_message(s, c);
-    let step = r.step;
-    let message = r.message;
-    let Step::Next(d) = step else {
-        return refused(step.number());
-    };
-    let ReadU64::Value(sig, e) = bincode::read_u64(s, d) else {
-        return refused(2);
-    };
-    ReadMessage {
-        step: Step::Next(e),
-        message: Message {
-            kind: MessageKind::KeyGen,
-            era,
-            message,
-            sig,
-            vote: SignedVote::empty(),
-        },
-    }
-}
-
-fn read_vote(s: &[u8], at: usize) -> ReadMessage
-    ensures { result ≡ content_answer (read_vote base s.now at) }
-{
-    let r = votes::read_signed_vote(s, at);
-    let step = r.step;
-    let vote = r.signed;
-    let Step::Next(c) = step else {
-        return refused(step.number());
-    };
-    ReadMessage {
-        step: Step::Next(c),
-        message: Message {
-            kind: MessageKind::SignedVote,
-            era: 0,
-            message: KeyGenMessage::empty(),
-            sig: 0,
-            vote,
-        },
-    }
-}
-
-pub fn read_message(s: &[u8], at: usize) -> ReadMessage
-    ensures { result ≡ content_answer (read_message base s.now at) }
-{
-    let ReadU32::Value(tag, c) = bincode::read_u32(s, at) else {
-        return refused(2);
+    let Ok((tag, c)) = bincode::read_u32(s, at) else {
+        return Err(Refusal::Malformed);
     };
     if tag == 1 {
         return read_key_gen(s, c);
@@ -136,22 +88,18 @@ pub fn read_message(s: &[u8], at: usize) -> ReadMessage
     if tag == 2 {
         return read_vote(s, c);
     }
-    refused(2)
+    Err(Refusal::Malformed)
 }
 
 // A message that is a whole input: nothing may be left over.
-pub fn read_whole_message(s: &[u8]) -> ReadMessage
-    ensures { result ≡ content_answer (whole (read_message base s.now) s.now) }
+pub fn read_whole_message(s: &[u8]) -> Result<(Message, usize), Refusal>
+    ensures { result ≡ answer content_held (whole (read_message base s.now) s.now) }
 {
-    let r = read_message(s, 0);
-    let step = r.step;
-    let Step::Next(c) = step else {
-        return r;
-    };
+    let (message, c) = read_message(s, 0)?;
     if c < s.len() {
-        return refused(2);
+        return Err(Refusal::Malformed);
     }
-    r
+    Ok((message, c))
 }
 
 fn write_key_gen(buf: &mut [u8], at: usize, era: u64, message: KeyGenMessage, sig: u64) -> usize

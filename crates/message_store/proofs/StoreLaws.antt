@@ -1,21 +1,15 @@
 -- Laws of the message store as an array with a count.
 -- Assumes nothing.
-use Prim.Native.Nat.{ℕ, ◌≤◌, ◌<◌}
+use Prim.Native.Nat.{◌≤◌, ◌<◌}
 use mathlib.Core.Path.{◌≡◌}
 use mathlib.Core.List.{List, [], ◌∷◌, ◌++◌}
 use mathlib.Core.Bool.{true, false}
-use native.Mathlib.Omega.{arith}
 use lib.ListN.{length}
 use borrow.Author.Tests.{le-leb, lt-leb}
 use Rattle.bincode.specs.Sizes.{Sizes}
 use Rattle.bincode.specs.Outcome.{done, refused}
 use Rattle.key_gen_message.specs.KeyGenMessage.{SignedKeyGenMsgOf}
 use Rattle.message_store.specs.MessageStore.{row12, pushed}
-use Rattle.message_store.specs.declared.PushOutcome.TheVariants as push
-
--- a message that is stored is not refused
-pub stored_not_refused : (n : ℕ) → push.Stored ≡ push.Refused n → ⊥
-stored_not_refused n e = let z : ◌≡◌ {A = ℕ} 0 1 = cc in omega arith
 
 module _ (z : Sizes) (ms : List SignedKeyGenMsgOf) where
   -- row 12 does not hold where fewer are held than there are places

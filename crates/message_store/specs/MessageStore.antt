@@ -1,15 +1,16 @@
 -- 01: the message store, in order of arrival; row 12.
-use Rattle.std.specs.Prelude.{ℕ, ◌≡◌, List, [], ◌∷◌, ◌++◌, map, Bool, true, false, not, cond, length, take, replicate, leb}
-use Rattle.lists.specs.Lists.{Found, found, nothing, filter}
+use Rattle.std.specs.Prelude.{ℕ, ◌≡◌, List, [], ◌∷◌, ◌++◌, map, Bool, not, cond, length, take, replicate, leb}
+use Rattle.std.specs.Prelude.{Ok, Err}
+use Rattle.std.specs.declared.result.Result.{Result}
+use Rattle.lists.specs.Lists.{filter}
+use Rattle.bincode.specs.Rows.{row_number}
+use Rattle.bincode.specs.declared.Refusal.{Refusal}
 use Rattle.bincode.specs.Sizes.{Sizes, base}
 use Rattle.bincode.specs.Outcome.{Outcome, done, refused}
 use Rattle.key_gen_message.specs.declared.SignedKeyGenMsg.{SignedKeyGenMsg}
 use Rattle.key_gen_message.specs.KeyGenMessage.{SignedKeyGenMsgOf, signed_of, signed_held, no_signed, same_signed}
 use Rattle.message_store.specs.declared.MessageStore.{MessageStore}
 use Rattle.message_store.specs.declared.Pushed.{Pushed}
-use Rattle.message_store.specs.declared.PushOutcome.{PushOutcome}
-use Rattle.message_store.specs.declared.PushOutcome.TheVariants as push
-use Rattle.message_store.specs.declared.StoredMessage.{StoredMessage}
 
 -- row 12: as many are held as the store has places
 unfoldable pub row12 : Sizes → List SignedKeyGenMsgOf → Bool
@@ -43,27 +44,13 @@ store_of s = map signed_of (held s)
 abbrev pub no_store : MessageStore
 no_store = record { count = 0; messages = replicate base.store (signed_held no_signed) }
 
-abbrev pub said_push : PushOutcome → MessageStore → Outcome (List SignedKeyGenMsgOf)
-said_push push.Stored s = done (store_of s)
-said_push (push.Refused n) s = refused n
+abbrev pub said_push : Result (Unit {0}) Refusal → MessageStore → Outcome (List SignedKeyGenMsgOf)
+said_push (Ok u) s = done (store_of s)
+said_push (Err e) s = refused (row_number e)
 
 abbrev pub pushed_of : Pushed → Outcome (List SignedKeyGenMsgOf)
 pushed_of r = said_push r.outcome r.store
 
 -- beside row 12 stands the very store that was given, places that do not count included
 abbrev pub PushRefusedKeeps : Pushed → MessageStore → Type 0
-PushRefusedKeeps r s = (n : ℕ) → r.outcome ≡ push.Refused n → r.store ≡ s
-
-abbrev pub said_found : Bool → SignedKeyGenMsg → Found SignedKeyGenMsgOf
-said_found true m = found (signed_of m)
-said_found false m = nothing
-
-abbrev pub said_stored : StoredMessage → Found SignedKeyGenMsgOf
-said_stored r = said_found r.found r.message
-
--- past the last place stands the empty message
-abbrev pub none_stored : StoredMessage
-none_stored = record { found = false; message = signed_held no_signed }
-
-abbrev pub NoneStoredEmpty : StoredMessage → Type 0
-NoneStoredEmpty r = r.found ≡ false → r ≡ none_stored
+PushRefusedKeeps r s = (e : Refusal) → r.outcome ≡ Err e → r.store ≡ s

@@ -2,11 +2,12 @@
 #![tactic(auto)]
 
 ghost use Rattle.std.specs.Prelude.{◌≡◌, ◌≤◌, length};
-ghost use Rattle.lists.specs.Lists.{at_place};
+ghost use Rattle.lists.specs.Lists.{option_as_found, at_place};
 ghost use Rattle.bincode.specs.Sizes.{base};
 ghost use Rattle.key_gen_message.specs.KeyGenMessage.{signed_of};
-ghost use Rattle.message_store.specs.MessageStore.{store_of, no_store, pushed, pushed_of, PushRefusedKeeps, said_stored, NoneStoredEmpty, without, from_era};
+ghost use Rattle.message_store.specs.MessageStore.{store_of, no_store, pushed, pushed_of, PushRefusedKeeps, without, from_era};
 
+use bincode::Refusal;
 use key_gen_message::SignedKeyGenMsg;
 
 // Places from `count` on do not count.
@@ -16,24 +17,11 @@ pub struct MessageStore {
     pub messages: [SignedKeyGenMsg; MessageStore::LIMIT],
 }
 
-#[derive(Clone, Copy)]
-pub enum PushOutcome {
-    Stored,
-    Refused(u8),
-}
-
 // The store after a message came; the very one that was given where it is refused.
 #[derive(Clone, Copy)]
 pub struct Pushed {
     pub store: MessageStore,
-    pub outcome: PushOutcome,
-}
-
-// The message at a place, or that there is none; the message beside it is then empty.
-#[derive(Clone, Copy)]
-pub struct StoredMessage {
-    pub found: bool,
-    pub message: SignedKeyGenMsg,
+    pub outcome: Result<(), Refusal>,
 }
 
 impl MessageStore {
@@ -59,12 +47,7 @@ impl MessageStore {
     pub fn len(self) -> usize
         ensures { (result ≡ length (store_of self)) × (result ≤ base.store) }
     {
-        let n = self.count;
-        if n < MessageStore::LIMIT {
-            n
-        } else {
-            MessageStore::LIMIT
-        }
+        self.count.min(MessageStore::LIMIT)
     }
 
     // A message behind those held; row 12 where there is no place.
@@ -77,29 +60,23 @@ impl MessageStore {
             self.count = held + 1;
             return Pushed {
                 store: self,
-                outcome: PushOutcome::Stored,
+                outcome: Ok(()),
             };
         }
         Pushed {
             store: self,
-            outcome: PushOutcome::Refused(12),
+            outcome: Err(Refusal::StoreFull),
         }
     }
 
-    // The message at a place, 0 first, in order of arrival.
-    pub fn at(self, place: usize) -> StoredMessage
-        ensures { (said_stored result ≡ at_place place (store_of self)) × NoneStoredEmpty result }
+    // The message at a place, 0 first, in order of arrival, if there is one.
+    pub fn at(self, place: usize) -> Option<SignedKeyGenMsg>
+        ensures { option_as_found signed_of result ≡ at_place place (store_of self) }
     {
         if place < self.len() {
-            return StoredMessage {
-                found: true,
-                message: self.messages[place],
-            };
+            return Some(self.messages[place]);
         }
-        StoredMessage {
-            found: false,
-            message: SignedKeyGenMsg::empty(),
-        }
+        None
     }
 
     // The messages that differ from a committed one.
@@ -108,14 +85,12 @@ impl MessageStore {
     {
         let n = self.len();
         let mut kept: usize = 0;
-        let mut i: usize = 0;
-        while i < n {
+        for i in 0..n {
             let x = self.messages[i];
             if !x.same(m) {
                 self.messages[kept] = x;
                 kept += 1;
             }
-            i += 1;
         }
         self.count = kept;
         self
@@ -127,14 +102,12 @@ impl MessageStore {
     {
         let n = self.len();
         let mut kept: usize = 0;
-        let mut i: usize = 0;
-        while i < n {
+        for i in 0..n {
             let x = self.messages[i];
             if era <= x.era {
                 self.messages[kept] = x;
                 kept += 1;
             }
-            i += 1;
         }
         self.count = kept;
         self

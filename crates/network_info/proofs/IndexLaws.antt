@@ -10,9 +10,12 @@ use lib.ListN.{length, take, drop, get_or, length-take}
 use lib.Seq.{get_or-take}
 use borrow.Author.Tests.{eq-eqb, ne_eqb, eqb-true}
 use Rattle.lists.proofs.ListLaws.{rest_none}
+use Rattle.std.specs.declared.option.Option.{Option}
+use Rattle.std.specs.declared.option.Option.TheVariants.{Some, None}
+use Rattle.std.specs.Option.{is_some}
 use Rattle.pub_key_map.specs.declared.Node.{Node}
 use Rattle.pub_key_map.specs.PubKeyMap.{no_node}
-use Rattle.lists.specs.Lists.{Found, found, nothing}
+use Rattle.lists.specs.Lists.{Found, found, nothing, option_as_found}
 use Rattle.network_info.specs.NetworkInfo.{index_from, key_of, is_member}
 
 -- turns of the search
@@ -63,6 +66,11 @@ index_nothing (n ∷ ns) j id e = go (eqb n.id id) e (index_nothing ns (j + 1) i
         → (cond b true (is_member ns id) ≡ false) × (cond b (found n.key) (key_of ns id) ≡ nothing)
     go true e ih = absurd (never j (sym e))
     go false e ih = ih e
+
+-- so membership is whether there is an index
+pub member_some : (o : Option ℕ) (ns : List Node) (id : ℕ) → option_as_found (λ (x : ℕ). x) o ≡ index_from 0 ns id → is_some o ≡ is_member ns id
+member_some (Some i) ns id e = sym (index_found ns 0 i id (sym e)).2
+member_some None ns id e = sym (index_nothing ns 0 id (sym e)).0
 
 -- the index of one of the first k nodes of an array is below both
 pub index_within : (xs : List Node) (k i id : ℕ) → index_from 0 (take k xs) id ≡ found i

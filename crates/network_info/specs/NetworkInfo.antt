@@ -2,10 +2,6 @@
 use Rattle.std.specs.Prelude.{ℕ, ◌+◌, List, [], ◌∷◌, Bool, true, false, cond, eqb}
 use Rattle.lists.specs.Lists.{Found, found, nothing}
 use Rattle.pub_key_map.specs.declared.Node.{Node}
-use Rattle.network_info.specs.declared.NodeIndex.{NodeIndex}
-use Rattle.network_info.specs.declared.NodeIndex.TheVariants as index
-use Rattle.network_info.specs.declared.NodeKey.{NodeKey}
-use Rattle.network_info.specs.declared.NodeKey.TheVariants as key
 
 -- the place of the first node with the id, counted from i
 unfoldable pub index_from : ℕ → List Node → ℕ → Found ℕ
@@ -23,12 +19,3 @@ key_of (n ∷ ns) id = cond (eqb n.id id) (found n.key) (key_of ns id)
 unfoldable pub is_member : List Node → ℕ → Bool
 is_member [] id = false
 is_member (n ∷ ns) id = cond (eqb n.id id) true (is_member ns id)
-
--- the answers as code gives them
-abbrev pub said_index : NodeIndex → Found ℕ
-said_index (index.At i) = found i
-said_index index.Nothing = nothing
-
-abbrev pub said_key : NodeKey → Found ℕ
-said_key (key.Key k) = found k
-said_key key.Nothing = nothing

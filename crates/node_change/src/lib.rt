@@ -14,15 +14,12 @@ fn place(map: PubKeyMap, id: u32) -> usize
     ensures { (result ≡ below id_of id (nodes_of map)) × (result ≤ length (nodes_of map)) }
 {
     let n = map.len();
-    let mut i: usize = 0;
-    while i < n {
-        let x = map.nodes[i];
-        if id <= x.id {
+    for i in 0..n {
+        if id <= map.nodes[i].id {
             return i;
         }
-        i += 1;
     }
-    i
+    n
 }
 
 // The nodes from a place on moved up by one, with a node at that place; there is room.
@@ -30,13 +27,7 @@ fn shift(mut map: PubKeyMap, at: usize, n: usize, x: Node) -> PubKeyMap
     requires { (at ≤ n) × (n < base.nodes) }
     ensures { nodes_of result ≡ take at (take n map.nodes) ++ (x ∷ drop at (take n map.nodes)) }
 {
-    let mut j = n;
-    while at < j {
-        let k = j - 1;
-        let y = map.nodes[k];
-        map.nodes[j] = y;
-        j = k;
-    }
+    map.nodes.copy_within(at..n, at + 1);
     map.nodes[at] = x;
     map.count = n + 1;
     map
@@ -48,11 +39,8 @@ pub fn is_full_for(map: PubKeyMap, id: u32) -> bool
 {
     let n = map.len();
     let at = place(map, id);
-    if at < n {
-        let x = map.nodes[at];
-        if x.id == id {
-            return false;
-        }
+    if at < n && map.nodes[at].id == id {
+        return false;
     }
     PubKeyMap::LIMIT <= n
 }
@@ -63,12 +51,9 @@ pub fn with_node(mut map: PubKeyMap, x: Node) -> PubKeyMap
 {
     let n = map.len();
     let at = place(map, x.id);
-    if at < n {
-        let y = map.nodes[at];
-        if y.id == x.id {
-            map.nodes[at] = x;
-            return map;
-        }
+    if at < n && map.nodes[at].id == x.id {
+        map.nodes[at] = x;
+        return map;
     }
     if n < PubKeyMap::LIMIT {
         return shift(map, at, n, x);
@@ -82,14 +67,12 @@ pub fn without_node(mut map: PubKeyMap, id: u32) -> PubKeyMap
 {
     let n = map.len();
     let mut kept: usize = 0;
-    let mut i: usize = 0;
-    while i < n {
+    for i in 0..n {
         let x = map.nodes[i];
         if x.id != id {
             map.nodes[kept] = x;
             kept += 1;
         }
-        i += 1;
     }
     map.count = kept;
     map

@@ -8,10 +8,6 @@ use Rattle.honey_badger.specs.EncryptionSchedule.{read_schedule, schedule_bytes,
 use Rattle.params.specs.declared.SubsetHandlingStrategy.{SubsetHandlingStrategy}
 use Rattle.params.specs.declared.SubsetHandlingStrategy.TheVariants.{Incremental, AllAtEnd}
 use Rattle.params.specs.declared.Params.{Params}
-use Rattle.params.specs.declared.ReadStrategy.{ReadStrategy}
-use Rattle.params.specs.declared.ReadStrategy.TheVariants as strategy
-use Rattle.params.specs.declared.ReadParams.{ReadParams}
-use Rattle.params.specs.declared.ReadParams.TheVariants as params
 
 -- the tag in order of declaration
 abbrev pub strategy_tag : SubsetHandlingStrategy → ℕ
@@ -38,19 +34,7 @@ read_params e s at =
 unfoldable pub params_bytes : Edition → Params → List ℕ
 params_bytes e p = concat (e.bytes 8 p.max_future_epochs ∷ strategy_bytes e p.subset_handling_strategy ∷ schedule_bytes e p.encryption_schedule ∷ [])
 
--- what stands where there are no parameters
-abbrev pub no_params : Params
-no_params = record { max_future_epochs = 0; subset_handling_strategy = Incremental; encryption_schedule = Always }
-
 -- the parameters that some bytes are read as
 pub record ParamsOk (p : Params) : Type 0 where
   pub epochs_fit : p.max_future_epochs < 256 ^ 8
   pub schedule_ok : ScheduleOk p.encryption_schedule
-
-abbrev pub said_strategy : ReadStrategy → Read SubsetHandlingStrategy
-said_strategy (strategy.Value x c) = value x c
-said_strategy (strategy.Refused n) = refuse n
-
-abbrev pub said_params : ReadParams → Read Params
-said_params (params.Value p c) = value p c
-said_params (params.Refused n) = refuse n

@@ -2,15 +2,16 @@
 #![tactic(auto)]
 
 ghost use Rattle.std.specs.Prelude.{◌≡◌, ◌≤◌, length};
-ghost use Rattle.bincode.specs.Read.{number_of, whole};
+ghost use Rattle.bincode.specs.Read.{whole};
+ghost use Rattle.bincode.specs.Answer.{answer};
 ghost use Rattle.bincode.specs.Numbers.{fixed};
 ghost use Rattle.bincode.specs.Writing.{written, written_to};
-ghost use Rattle.params.specs.Params.{no_params, read_strategy, said_strategy, strategy_tag, read_params, said_params, params_bytes};
+ghost use Rattle.params.specs.Params.{read_strategy, strategy_tag, read_params, params_bytes};
 
-use bincode::{ReadU32, ReadU64};
-use honey_badger::{EncryptionSchedule, ReadSchedule};
+use bincode::Refusal;
+use honey_badger::EncryptionSchedule;
 
-#[derive(Clone, Copy)]
+#[derive(Clone, Copy, PartialEq, Eq)]
 pub enum SubsetHandlingStrategy {
     Incremental,
     AllAtEnd,
@@ -28,98 +29,53 @@ impl SubsetHandlingStrategy {
     }
 }
 
-#[derive(Clone, Copy)]
+#[derive(Clone, Copy, PartialEq, Eq)]
 pub struct Params {
     pub max_future_epochs: u64,
     pub subset_handling_strategy: SubsetHandlingStrategy,
     pub encryption_schedule: EncryptionSchedule,
 }
 
-impl Params {
-    // What stands where there are no parameters.
-    pub fn empty() -> Self
-        ensures { result ≡ no_params }
-    {
-        Params {
-            max_future_epochs: 0,
-            subset_handling_strategy: SubsetHandlingStrategy::Incremental,
-            encryption_schedule: EncryptionSchedule::Always,
-        }
-    }
-}
-
-#[derive(Clone, Copy)]
-pub enum ReadStrategy {
-    Value(SubsetHandlingStrategy, usize),
-    Refused(u8),
-}
-
-#[derive(Clone, Copy)]
-pub enum ReadParams {
-    Value(Params, usize),
-    Refused(u8),
-}
-
-impl ReadParams {
-    // The refusal's number, 0 where there is none.
-    pub fn number(self) -> u8
-        ensures { result ≡ number_of (said_params self) }
-    {
-        match self {
-            ReadParams::Value(_, _) => 0,
-            ReadParams::Refused(n) => n,
-        }
-    }
-}
-
-fn read_strategy(s: &[u8], at: usize) -> ReadStrategy
-    ensures { said_strategy result ≡ read_strategy fixed s.now at }
+fn read_strategy(s: &[u8], at: usize) -> Result<(SubsetHandlingStrategy, usize), Refusal>
+    ensures { result ≡ answer (λ (x : SubsetHandlingStrategy). x) (read_strategy fixed s.now at) }
 {
-    let ReadU32::Value(tag, c) = bincode::read_u32(s, at) else {
-        return ReadStrategy::Refused(2);
+    let Ok((tag, c)) = bincode::read_u32(s, at) else {
+        return Err(Refusal::Malformed);
     };
     match tag {
-        0 => ReadStrategy::Value(SubsetHandlingStrategy::Incremental, c),
-        1 => ReadStrategy::Value(SubsetHandlingStrategy::AllAtEnd, c),
-        _ => ReadStrategy::Refused(2),
+        0 => Ok((SubsetHandlingStrategy::Incremental, c)),
+        1 => Ok((SubsetHandlingStrategy::AllAtEnd, c)),
+        _ => Err(Refusal::Malformed),
     }
 }
 
-pub fn read_params(s: &[u8], at: usize) -> ReadParams
-    ensures { said_params result ≡ read_params fixed s.now at }
+pub fn read_params(s: &[u8], at: usize) -> Result<(Params, usize), Refusal>
+    ensures { result ≡ answer (λ (x : Params). x) (read_params fixed s.now at) }
 {
-    let ReadU64::Value(max_future_epochs, c) = bincode::read_u64(s, at) else {
-        return ReadParams::Refused(2);
+    let Ok((max_future_epochs, c)) = bincode::read_u64(s, at) else {
+        return Err(Refusal::Malformed);
     };
-    let ReadStrategy::Value(subset_handling_strategy, d) = read_strategy(s, c) else {
-        return ReadParams::Refused(2);
-    };
-    let r = honey_badger::read_schedule(s, d);
-    let ReadSchedule::Value(encryption_schedule, e) = r else {
-        return ReadParams::Refused(r.number());
-    };
-    ReadParams::Value(
+    let (subset_handling_strategy, d) = read_strategy(s, c)?;
+    let (encryption_schedule, e) = honey_badger::read_schedule(s, d)?;
+    Ok((
         Params {
             max_future_epochs,
             subset_handling_strategy,
             encryption_schedule,
         },
         e,
-    )
+    ))
 }
 
 // Parameters that are a whole input: nothing may be left over.
-pub fn read_whole_params(s: &[u8]) -> ReadParams
-    ensures { said_params result ≡ whole (read_params fixed s.now) s.now }
+pub fn read_whole_params(s: &[u8]) -> Result<(Params, usize), Refusal>
+    ensures { result ≡ answer (λ (x : Params). x) (whole (read_params fixed s.now) s.now) }
 {
-    let r = read_params(s, 0);
-    let ReadParams::Value(p, c) = r else {
-        return r;
-    };
+    let (p, c) = read_params(s, 0)?;
     if c < s.len() {
-        return ReadParams::Refused(2);
+        return Err(Refusal::Malformed);
     }
-    ReadParams::Value(p, c)
+    Ok((p, c))
 }
 
 // How many bytes parameters take.

@@ -11,15 +11,22 @@ use lib.ListN.{length, take, length-append, length-take}
 use lib.Seq.{take_all, take_at}
 use Rattle.lists.specs.Lists.{Found, nothing}
 use Rattle.lists.proofs.ListLaws.{cond_yes, cond_no}
+use Rattle.std.specs.declared.result.Result.{Result}
+use Rattle.std.specs.declared.result.Result.TheVariants.{Ok}
+use Rattle.std.specs.declared.option.Option.{Option}
+use Rattle.std.specs.declared.option.Option.TheVariants.{None}
 use Rattle.bincode.specs.Items.{foldl}
 use Rattle.bincode.specs.Outcome.{done}
 use Rattle.bincode.specs.Sizes.{base}
+use Rattle.bincode.specs.declared.Refusal.{Refusal}
+use Rattle.bincode.specs.declared.Refusal.TheVariants.{EmptyMapWins}
+use Rattle.bincode.proofs.ReadLaws.{cross, crossed}
 use Rattle.pub_key_map.specs.PubKeyMap.{nodes_of}
 use Rattle.due.specs.declared.DueKind.TheVariants.{Part}
 use Rattle.due.specs.declared.DueItem.{DueItem}
+use Rattle.change.specs.declared.Change.{Change}
 use Rattle.params.specs.declared.Params.{Params}
-use Rattle.change.specs.Change.{ChangeOf, node_change, change_held, none, state_held, state_of as progress_of}
-use Rattle.recipe.specs.Recipe.{NoRecipeEmpty}
+use Rattle.change.specs.Change.{ChangeOf, none, state_held, state_of as progress_of}
 use Rattle.key_gen_message.specs.KeyGenMessage.{SignedKeyGenMsgOf}
 use Rattle.key_gen_state.specs.declared.KeyGenState.{KeyGenState}
 use Rattle.key_gen_state.specs.KeyGenState as running
@@ -34,18 +41,16 @@ use Rattle.commit.specs.Put.{put_in}
 use Rattle.commit.proofs.TallyLaws.{tallied_length}
 use Rattle.commit.proofs.StayedLaws.{put_nothing, put_stayed}
 use Rattle.decision.specs.declared.Decision.{Decision}
-use Rattle.decision.specs.declared.Elected.{Elected}
 use Rattle.decision.specs.Decision.{parts_of, decide, decide_by, decided_of, elected_of, said_recipe, without_recipe, empty_wins, is_empty_map}
 use Rattle.decision.proofs.DecisionLaws.{by_elects}
 use Rattle.process_output.specs.Process.{denied, reported, finished}
-use Rattle.process_batch.specs.declared.BatchOutcome.{BatchOutcome}
-use Rattle.process_batch.specs.declared.BatchOutcome.TheVariants as outcome
+use Rattle.process_batch.specs.declared.Report.{Report}
 use Rattle.process_batch.specs.Answer.{as_given, settled_by, nothing_decided, due_count, part_behind, Quiet}
 use Rattle.process_batch.specs.Worked.{RanAs, Concluded}
 
--- a report is no refusal
-pub never_refused : (n : ℕ) → ◌≡◌ {A = BatchOutcome} outcome.Reported (outcome.Refused n) → ⊥
-never_refused n e = let o : ◌≡◌ {A = ℕ} 0 1 = cc in omega arith
+-- an answer tells one report
+one_report : (a b : Report) → ◌≡◌ {A = Result Report Refusal} (Ok a) (Ok b) → a ≡ b
+one_report a b e = cc
 
 -- how many are due
 pub due_counted : (ds : List DueItem) (n : ℕ) (i : DueItem) (part : Bool) → length ds ≡ n → n ≤ base.due
@@ -90,9 +95,9 @@ module _ (era : ℕ) (s : StateOf) (e : Found ChangeOf) (h : e ≡ compute_winne
 module _ (p : Params) (c : VoteCounter) (k : KeyGenState) (st : List SignedKeyGenMsgOf) (l : Found Stamp) (epoch : ℕ) (w : WorkOf) where
   -- row 7
   pub void_as : empty_wins w.state ≡ true
-      → RanAs (as_given p c k 7) p c k st w.state.store w.faults w.due (cond (empty_wins w.state) (denied (parts_of p c k st l) 7) (finished base (parts_of p c k st l) epoch w))
+      → RanAs (as_given p c k EmptyMapWins) p c k st w.state.store w.faults w.due (cond (empty_wins w.state) (denied (parts_of p c k st l) 7) (finished base (parts_of p c k st l) epoch w))
   void_as e =
-      subst (RanAs (as_given p c k 7) p c k st w.state.store w.faults w.due) (sym (cond_yes _ _ e))
+      subst (RanAs (as_given p c k EmptyMapWins) p c k st w.state.store w.faults w.due) (sym (cond_yes _ _ e))
       (record {
         by_params = refl;
         by_counter = refl;
@@ -101,14 +106,13 @@ module _ (p : Params) (c : VoteCounter) (k : KeyGenState) (st : List SignedKeyGe
         by_report = refl;
         by_faults = refl;
         by_due = refl;
-        no_recipe = λ e. refl;
-        refused_keeps = λ n q. let r : 7 ≡ n = cc in ap (as_given p c k) r;
-        by_acks = λ q. absurd (never_refused 7 (sym q));
+        refused_keeps = λ n q. let r : EmptyMapWins ≡ n = cc in ap (as_given p c k) r;
+        by_acks = λ t q. absurd (crossed q);
       })
 
   -- a decision
   module _ (m : Committed) (faults : length w.faults ≡ m.faults) (due : length w.due ≡ m.due) (few : m.due ≤ base.due)
-      (d : Decision) (bare : NoRecipeEmpty d.has_recipe d.recipe) (decided : decided_of (epoch + 1) w.state.store w.state.last d ≡ decide base (epoch + 1) w.state) where
+      (d : Decision) (decided : decided_of (epoch + 1) w.state.store w.state.last d ≡ decide base (epoch + 1) w.state) where
     pub decided_as : empty_wins w.state ≡ false
         → RanAs (settled_by d c.era epoch m) p c k st w.state.store w.faults w.due (cond (empty_wins w.state) (denied (parts_of p c k st l) 7) (finished base (parts_of p c k st l) epoch w))
     decided_as e =
@@ -125,17 +129,16 @@ module _ (p : Params) (c : VoteCounter) (k : KeyGenState) (st : List SignedKeyGe
             batch = record { epoch = epoch; era = c.era; change = progress_of d.change; keys = nodes_of d.vote_counter.pub_keys; params = d.params };
             faults = sym faults j;
             due = due_counted w.due m.due (record { kind = Part; era = epoch + 1 }) d.part_due due few j;
-            recipe = said_recipe d.has_recipe d.recipe;
+            recipe = said_recipe d.recipe;
           });
           by_faults = refl;
           by_due = part_owed w.due m.due (epoch + 1) d.part_due due few;
-          no_recipe = bare;
-          refused_keeps = λ n q. absurd (never_refused n q);
-          by_acks = λ q. (faults, due);
+          refused_keeps = λ n q. absurd (cross q);
+          by_acks = λ t q. (faults ∙ ap (λ (y : Report). y.faults) (one_report _ t q), due);
         })
 
 -- steps 6 to 8 on parts: `after` is the counter with the votes that stayed, `e` its winner
-module _ (s : List ℕ) (p : Params) (c after : VoteCounter) (k : KeyGenState) (epoch : ℕ) (m : Committed) (e : Elected)
+module _ (s : List ℕ) (p : Params) (c after : VoteCounter) (k : KeyGenState) (epoch : ℕ) (m : Committed) (e : Option Change)
     (put : counter_of after ≡ foldl (put_in base s) (counter_of c) (entries_of m.tally)) (elected : elected_of e ≡ compute_winner (counter_of after)) where
   -- the state of the work is what the parts make
   whole : (w : WorkOf) → VotesHeld s (begun_with (counter_of c)) w c.era (nodes_of c.pub_keys) m.tally
@@ -150,17 +153,17 @@ module _ (s : List ℕ) (p : Params) (c after : VoteCounter) (k : KeyGenState) (
       → empty_wins w.state ≡ cond (running.ready_state (running.state_of m.state)) false (is_empty_map (elected_of e))
   voids w all = sym (ap empty_wins all) ∙ empty_by (epoch + 1) (parts_of p after m.state w.state.store w.state.last) (elected_of e) elected
 
-  pub void_concluded : cond (running.ready_state (running.state_of m.state)) false (is_empty_map (elected_of e)) ≡ true → Concluded s p c k epoch m (as_given p c k 7)
+  pub void_concluded : cond (running.ready_state (running.state_of m.state)) false (is_empty_map (elected_of e)) ≡ true → Concluded s p c k epoch m (as_given p c k EmptyMapWins)
   void_concluded v w st l held counter params key faults due = void_as p c k st l epoch w (voids w (whole w held counter params key) ∙ v)
 
   pub decided_concluded : cond (running.ready_state (running.state_of m.state)) false (is_empty_map (elected_of e)) ≡ false → m.due ≤ base.due
-      → (d : Decision) → NoRecipeEmpty d.has_recipe d.recipe
+      → (d : Decision)
       → ((st : List SignedKeyGenMsgOf) (l : Found Stamp) → decided_of (epoch + 1) st l d ≡ decide_by base (epoch + 1) (parts_of p after m.state st l) (elected_of e))
       → Concluded s p c k epoch m (settled_by d c.era epoch m)
-  decided_concluded v few d bare decided w st l held counter params key faults due =
+  decided_concluded v few d decided w st l held counter params key faults due =
       let all = whole w held counter params key in
       let t = parts_of p after m.state w.state.store w.state.last in
-      decided_as p c k st l epoch w m faults due few d bare
+      decided_as p c k st l epoch w m faults due few d
       (decided w.state.store w.state.last ∙ decide_by_lem (epoch + 1) t (elected_of e) elected ∙ ap (decide base (epoch + 1)) all) (voids w all ∙ v)
 
 -- a batch of which no vote stayed, with so few votes that nobody wins and key generation not ready, decides nothing: its state is the parts that were given, with
@@ -170,7 +173,7 @@ pub quiet_concluded : (s : List ℕ) (p : Params) (c : VoteCounter) (k : KeyGenS
 quiet_concluded s p c k epoch d q few w st l held =
     let votes = tallied_length s c.era (nodes_of c.pub_keys) held.by_entry in
     let nobody : nothing ≡ compute_winner (counter_of c) = sym (few_votes (counter_of c) (omega (arith, votes, q.few))) in
-    decided_concluded s p c c k epoch d (record { found = false; change = change_held (node_change []) })
+    decided_concluded s p c c k epoch d None
     (sym (put_nothing base s (counter_of c) (entries_of d.tally) q.none_stayed)) nobody
-    (cond_no _ _ q.not_ready) few (without_recipe p c d.state false (state_held none) false) (λ e. refl)
+    (cond_no _ _ q.not_ready) few (without_recipe p c d.state false (state_held none) false)
     (λ store last. sym (by_elects base (epoch + 1) (parts_of p c d.state store last) nothing q.not_ready)) w st l held

@@ -1,98 +1,51 @@
--- Loops that put a list, or one number many times, into a lent list from its first place on; and what the three lists of due items then hold.
+-- A list, or one number many times, put into a lent list from its first place on; and what the three lists of due items then hold.
 -- Assumes nothing.
-use Prim.Native.Nat.{ℕ, ◌+◌, ◌≤◌, ◌<◌, min}
+use Prim.Native.Nat.{ℕ, ◌≤◌, min}
 use mathlib.Core.Path.{◌≡◌, refl, sym, ap, ◌∙◌}
 use mathlib.Core.List.{List, [], ◌∷◌, ◌++◌, map, map-append}
-use mathlib.Core.Bool.{Bool, true, false, cond}
+use mathlib.Core.Bool.{Bool, true, false}
 use native.Mathlib.Omega.{arith}
-use native.Mathlib.Numerals.{add-one}
 use lib.Dec.{ltb}
-use lib.ListN.{length, take, get_or, set, replicate, length-take, length-map, length-replicate, get_or-replicate, drop_of_length-le}
-use lib.Seq.{take_all, take-suc, take-take, length-take-le, get_or-take}
+use lib.ListN.{length, take, drop, set, replicate, length-take, length-map, length-replicate, drop_of_length-le}
+use lib.Seq.{take_all, take-take}
+use Rattle.std.proofs.lemmas.List.{take-replicate}
 use borrow.Author.Tests.{ltb-true, ltb-false}
-use Rattle.filled.specs.Filled.{filled, shorter}
+use Rattle.filled.specs.Filled.{filled}
 use Rattle.filled.specs.Numbers.{due_kind, due_index, due_era, DueIn, DueAt}
-use Rattle.filled.proofs.FillLaws.{length_filled, filled_none, filled_next}
+use Rattle.filled.proofs.FillLaws.{filled_next}
 use Rattle.due.specs.declared.DueItem.{DueItem}
 use Rattle.steps.specs.Held.{ack_item}
 
--- the shorter of two lengths, as arithmetic knows it
-shorter_min : (a b : ℕ) → shorter a b ≡ min a b
-shorter_min a b = go (ltb a b) refl
+-- a list put into an old one, as far as both reach
+pub put_front : {A : Type 0} (xs old : List A) (end : ℕ) → end ≡ min (length xs) (length old) → take end xs ++ drop end old ≡ filled xs old
+unfolding filled
+put_front xs old end e = go (ltb (length old) (length xs)) refl
   where
-    go : (t : Bool) → ltb a b ≡ t → cond t a b ≡ min a b
-    go true t = omega (arith, ltb-true a b t)
-    go false t = omega (arith, ltb-false a b t)
+    go : (t : Bool) → ltb (length old) (length xs) ≡ t → take end xs ++ drop end old ≡ take (length old) xs ++ drop (length xs) old
+    go false t =
+        let k = ltb-false (length old) (length xs) t in
+        let w : end ≡ length xs = omega (arith, e, k) in
+        rw (w, take_all (length xs) xs (omega arith), take_all (length old) xs k)
+    go true t =
+        let k = ltb-true (length old) (length xs) t in
+        let w : end ≡ length old = omega (arith, e, k) in
+        rw (w, drop_of_length-le old {i = length old} (omega arith), drop_of_length-le old {i = length xs} (omega (arith, k)))
 
--- a list xs that is put into one that was old
-module _ {A : Type 0} (xs old : List A) where
-  -- as far as its first i
-  abbrev pub PutTo : ℕ → List A → Type 0
-  PutTo i list = list ≡ filled (take i xs) old
+-- the first n of a list, copied as far as both reach
+pub copied : {A : Type 0} (from old part : List A) (n end : ℕ) → end ≡ min (min n (length old)) (length from) → part ≡ take end from
+    → part ++ drop end old ≡ filled (take n from) old
+copied from old part n end e p =
+    let h : end ≤ n = omega (arith, e) in
+    let l : end ≡ min (length (take n from)) (length old) = omega (arith, e, length-take n from) in
+    rw (p, ← take-take end n from h) (put_front (take n from) old end l)
 
-  -- at the start nothing is
-  pub put_start : PutTo 0 old
-  put_start = sym (filled_none old)
-
-  -- there are as many places as before
-  pub put_length : (i : ℕ) (list : List A) → PutTo i list → length list ≡ length old
-  put_length i list e = ap length e ∙ length_filled (take i xs) old
-
-  -- a turn
-  put_turn : (i : ℕ) (list : List A) (x z : A) → PutTo i list → i < length xs → get_or xs i z ≡ x → PutTo (i + 1) (set list i x)
-  put_turn i list x z e h s =
-      let next : take (i + 1) xs ≡ take i xs ++ (x ∷ []) = rw (add-one i, ← s) (take-suc xs i z h) in
-      rw (next, e) (filled_next (take i xs) old i x (length-take-le i xs (omega arith)))
-
-  -- where either list ends, the rest of the other does not count
-  put_end : (i : ℕ) (list : List A) → PutTo i list → min (length xs) (length old) ≤ i → list ≡ filled xs old
-  unfolding filled
-  put_end i list e h = go (ltb i (length xs)) refl
-    where
-      go : (t : Bool) → ltb i (length xs) ≡ t → list ≡ filled xs old
-      go false t = rw (take_all i xs (ltb-false i (length xs) t)) at e
-      go true t =
-          let k = ltb-true i (length xs) t in
-          let l : length (take i xs) ≡ i = length-take-le i xs (omega (arith, k)) in
-          rw (e, take-take (length old) i xs (omega (arith, k)), l, drop_of_length-le old {i = i} (omega (arith, k)), drop_of_length-le old {i = length xs} (omega (arith, k)))
-
--- the first n of a list, put there by a loop up to the shortest of three lengths
-module _ {A : Type 0} (from old : List A) (n m end : ℕ) (both : m ≡ shorter (length old) (length from)) (all : end ≡ shorter n m) where
-  shortest : end ≡ min n (min (length old) (length from))
-  shortest = all ∙ shorter_min n m ∙ ap (min n) (both ∙ shorter_min (length old) (length from))
-
-  pub copy_from : (i : ℕ) → i < end → i < length from
-  copy_from i h = omega (arith, shortest)
-
-  module _ (i : ℕ) (list : List A) (e : PutTo (take n from) old i list) where
-    pub copy_place : i < end → i < length list
-    copy_place h = omega (arith, shortest, put_length (take n from) old i list e)
-
-    pub copy_turn : (z : A) → i < end → PutTo (take n from) old (i + 1) (set list i (get_or from i z))
-    copy_turn z h =
-        put_turn (take n from) old i list (get_or from i z) z e (omega (arith, shortest, length-take n from)) (get_or-take n from i z (omega (arith, shortest)))
-
-    pub copy_end : end ≤ i → list ≡ filled (take n from) old
-    copy_end h = put_end (take n from) old i list e (omega (arith, shortest, length-take n from))
-
--- x at the first n places, put there by a loop up to the shorter of two lengths
-module _ {A : Type 0} (x : A) (old : List A) (n end : ℕ) (all : end ≡ shorter n (length old)) where
-  least : end ≡ min n (length old)
-  least = all ∙ shorter_min n (length old)
-
-  pub fill_within : (i : ℕ) → i < end → i < length old
-  fill_within i h = omega (arith, least)
-
-  module _ (i : ℕ) (list : List A) (e : PutTo (replicate n x) old i list) where
-    pub fill_place : i < end → i < length list
-    fill_place h = omega (arith, least, put_length (replicate n x) old i list e)
-
-    pub fill_turn : i < end → PutTo (replicate n x) old (i + 1) (set list i x)
-    fill_turn h =
-        put_turn (replicate n x) old i list x x e (omega (arith, least, length-replicate n x)) (get_or-replicate n i x x (omega (arith, least)))
-
-    pub fill_end : end ≤ i → list ≡ filled (replicate n x) old
-    fill_end h = put_end (replicate n x) old i list e (omega (arith, least, length-replicate n x))
+-- one number, as far as its places reach
+pub filled_with : {A : Type 0} (x : A) (old part : List A) (n end : ℕ) → end ≡ min n (length old) → part ≡ replicate (length (take end old)) x → part ++ drop end old ≡ filled (replicate n x) old
+filled_with x old part n end e p =
+    let h : end ≤ n = omega (arith, e) in
+    let l : end ≡ min (length (replicate n x)) (length old) = omega (arith, e, length-replicate n x) in
+    let k : length (take end old) ≡ end = omega (arith, e, length-take end old) in
+    rw (p, k, ← take-replicate end n x h) (put_front (replicate n x) old end l)
 
 -- what has the same number for every element is that number, as often as there are elements
 same_for_all : {A B C : Type 0} (f : B → C) (g : A → B) (k : C) → ((a : A) → f (g a) ≡ k) → (ys : List A) → map f (map g ys) ≡ replicate (length ys) k

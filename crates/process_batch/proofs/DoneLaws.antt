@@ -7,8 +7,12 @@ use native.Mathlib.Omega.{arith}
 use lib.ListN.{length, take}
 use lib.Seq.{take_at}
 use Rattle.lists.specs.Lists.{found}
+use Rattle.std.specs.declared.result.Result.{Result}
+use Rattle.std.specs.declared.result.Result.TheVariants.{Ok, Err}
+use Rattle.std.specs.declared.option.Option.{Option}
 use Rattle.bincode.specs.Outcome.{Outcome, done, refused}
 use Rattle.bincode.specs.Sizes.{base}
+use Rattle.bincode.specs.declared.Refusal.{Refusal}
 use Rattle.filled.specs.Filled.{filled}
 use Rattle.filled.specs.Numbers.{fault_id, kind_number, due_index, FaultsIn, DueIn}
 use Rattle.filled.proofs.FillLaws.{filled_room}
@@ -26,12 +30,11 @@ use Rattle.steps.specs.Held.{ack_item}
 use Rattle.commit.specs.Batch.{Lists}
 use Rattle.process_output.specs.Process.{BatchCall, ReportOf, ProcessedOf, last_after, processed}
 use Rattle.process_output.proofs.CallLaws.{processed_last}
-use Rattle.process_batch.specs.declared.BatchOutcome.{BatchOutcome}
-use Rattle.process_batch.specs.declared.BatchOutcome.TheVariants as outcome
+use Rattle.process_batch.specs.declared.Report.{Report}
 use Rattle.process_batch.specs.declared.Told.{Told}
 use Rattle.process_batch.specs.declared.Settled.{Settled}
 use Rattle.process_batch.specs.declared.Processed.{Processed}
-use Rattle.process_batch.specs.Answer.{Summary, summary, summed, said_batch, held_summary, part_behind, last_by, ProcessedAs, BatchRefusedKeeps}
+use Rattle.process_batch.specs.Answer.{summary, summed, held_summary, report_of, faults_told, due_told, part_behind, last_by, ProcessedAs, BatchRefusedKeeps}
 use Rattle.process_batch.specs.Worked.{RanAs, store_by, list_by}
 use Rattle.process_batch.specs.Lent.{faults_in, due_in}
 
@@ -56,31 +59,31 @@ none_noted era l = record { by_id = take_nothing l.ids; by_kind = take_nothing l
 module _ (r : Settled) (p : Params) (c : VoteCounter) (k : KeyGenState) (st kept : List SignedKeyGenMsgOf) (fs : List Fault) (ds : List DueItem) (x : ProcessedOf)
     (h : RanAs r p c k st kept fs ds x) where
   -- faults and acks are told by their number
-  pub told_faults : (o : BatchOutcome) → r.told.report.outcome ≡ o → r.told.report.faults ≡ length (list_by o fs)
-  told_faults outcome.Reported e = sym (h.by_acks e).0
-  told_faults (outcome.Refused n) e = ap (λ (y : Settled). y.told.report.faults) (h.refused_keeps n e)
+  pub told_faults : (o : Result Report Refusal) → r.told.report ≡ o → faults_told o ≡ length (list_by o fs)
+  told_faults (Ok t) e = sym (h.by_acks t e).0
+  told_faults (Err n) e = refl
 
-  pub told_acks : (o : BatchOutcome) → r.told.report.outcome ≡ o → r.told.acks ≡ length (list_by o ds)
-  told_acks outcome.Reported e = sym (h.by_acks e).1
-  told_acks (outcome.Refused n) e = ap (λ (y : Settled). y.told.acks) (h.refused_keeps n e)
+  pub told_acks : (o : Result Report Refusal) → r.told.report ≡ o → r.told.acks ≡ length (list_by o ds)
+  told_acks (Ok t) e = sym (h.by_acks t e).1
+  told_acks (Err n) e = ap (λ (y : Settled). y.told.acks) (h.refused_keeps n e)
 
   -- the lists of the call's own hold them
-  pub told_noted : (era : ℕ) (l : Lists) → Noted fs ds era l → (o : BatchOutcome) → Noted (list_by o fs) (list_by o ds) era l
-  told_noted era l n outcome.Reported = n
-  told_noted era l n (outcome.Refused m) = none_noted era l
+  pub told_noted : (era : ℕ) (l : Lists) → Noted fs ds era l → (o : Result Report Refusal) → Noted (list_by o fs) (list_by o ds) era l
+  told_noted era l n (Ok t) = n
+  told_noted era l n (Err m) = none_noted era l
 
   -- what is due behind the acks
-  due_behind : (o : BatchOutcome) → r.told.report.outcome ≡ o
-      → list_by o ds ++ part_behind r.told.acks r.told.report.due r.told.era ≡ list_by o (ds ++ part_behind r.told.acks r.told.report.due r.told.era)
-  due_behind outcome.Reported e = refl
-  due_behind (outcome.Refused n) e = ap (λ (y : Settled). part_behind y.told.acks y.told.report.due y.told.era) (h.refused_keeps n e)
+  due_behind : (o : Result Report Refusal) → r.told.report ≡ o
+      → list_by o ds ++ part_behind r.told.acks (due_told o) r.told.era ≡ list_by o (ds ++ part_behind r.told.acks (due_told o) r.told.era)
+  due_behind (Ok t) e = refl
+  due_behind (Err n) e = ap (λ (y : Settled). part_behind y.told.acks 0 y.told.era) (h.refused_keeps n e)
 
   -- the host's lists of faults
   pub faults_filled : (era : ℕ) (l : Lists) → Noted fs ds era l → (ids ids' kinds kinds' : List ℕ)
-      → ids' ≡ filled (take r.told.report.faults l.ids) ids → kinds' ≡ filled (take r.told.report.faults l.kinds) kinds
+      → ids' ≡ filled (take (faults_told r.told.report) l.ids) ids → kinds' ≡ filled (take (faults_told r.told.report) l.kinds) kinds
       → FaultsIn (faults_in x.answer) ids ids' kinds kinds'
   faults_filled era l n ids ids' kinds kinds' d e =
-      let o = r.told.report.outcome in
+      let o = r.told.report in
       let q = told_noted era l n o in
       let t = told_faults o refl in (
         d ∙ ap (λ (xs : List ℕ). filled xs ids) (ap (λ (i : ℕ). take i l.ids) t ∙ q.by_id ∙ ap (λ (ys : List Fault). map fault_id ys) h.by_faults),
@@ -90,59 +93,50 @@ module _ (r : Settled) (p : Params) (c : VoteCounter) (k : KeyGenState) (st kept
   -- and those of due items, by what `write_due` ensures
   pub due_filled : (era : ℕ) (l : Lists) → Noted fs ds era l → (kinds kinds' indices indices' eras eras' : List ℕ)
       → ((es : List DueItem) → length es ≡ r.told.acks → take r.told.acks l.indices ≡ map due_index es → es ≡ map (ack_item era) (map due_index es)
-      → DueIn (es ++ part_behind r.told.acks r.told.report.due r.told.era) kinds kinds' indices indices' eras eras')
+      → DueIn (es ++ part_behind r.told.acks (due_told r.told.report) r.told.era) kinds kinds' indices indices' eras eras')
       → DueIn (due_in x.answer) kinds kinds' indices indices' eras eras'
   due_filled era l n kinds kinds' indices indices' eras eras' w =
-      let o = r.told.report.outcome in
+      let o = r.told.report in
       let q = told_noted era l n o in
       let t = told_acks o refl in
       subst (λ (es : List DueItem). DueIn es kinds kinds' indices indices' eras eras') (due_behind o refl ∙ h.by_due)
       (w (list_by o ds) (sym t) (ap (λ (i : ℕ). take i l.indices) t ∙ q.by_index) q.all_acks)
 
   -- no more faults are told than there are places
-  pub few_told : length fs ≤ base.faults → r.told.report.faults ≤ base.faults
-  few_told b = go r.told.report.outcome refl
+  pub few_told : length fs ≤ base.faults → faults_told r.told.report ≤ base.faults
+  few_told b = go r.told.report refl
     where
-      go : (o : BatchOutcome) → r.told.report.outcome ≡ o → r.told.report.faults ≤ base.faults
-      go outcome.Reported e = omega (arith, told_faults outcome.Reported e, b)
-      go (outcome.Refused n) e = omega (arith, told_faults (outcome.Refused n) e)
+      go : (o : Result Report Refusal) → r.told.report ≡ o → faults_told o ≤ base.faults
+      go (Ok t) e = omega (arith, told_faults (Ok t) e, b)
+      go (Err n) e = omega arith
 
 -- the state with the parts that the steps left, and a store
 abbrev pub parts_in : DynamicHoneyBadger → Told → Settled
 parts_in s t = record { params = s.params; vote_counter = s.vote_counter; key_gen_state = s.key_gen_state; told = t }
 
 abbrev pub answered : DynamicHoneyBadger → Told → Processed
-answered s t =
-    record {
-      state = s;
-      outcome = t.report.outcome;
-      batch = t.report.batch;
-      faults = t.report.faults;
-      due = t.report.due;
-      has_recipe = t.report.has_recipe;
-      recipe = t.report.recipe;
-    }
+answered s t = record { state = s; outcome = t.report }
 
 -- the last report as code keeps it is the one that the answer says
-last_said : (o : BatchOutcome) (y : Summary) (l : ReportStamp) (a : Outcome ReportOf) → said_batch o y ≡ summed a
-    → stamp_held (last_by o y.batch.epoch y.batch.era l) ≡ last_after (stamp_held l) a
-last_said outcome.Reported y l (done r) e = let q : y ≡ summary r = cc in λ j. found (record { epoch = (q j).batch.epoch; era = (q j).batch.era })
-last_said outcome.Reported y l (refused n) e = absurd (let z : ◌≡◌ {A = ℕ} 0 1 = cc in let w : ⊥ = omega arith in w)
-last_said (outcome.Refused n) y l (done r) e = absurd (let z : ◌≡◌ {A = ℕ} 0 1 = cc in let w : ⊥ = omega arith in w)
-last_said (outcome.Refused n) y l (refused m) e = refl
+last_said : (o : Result Report Refusal) (l : Option ReportStamp) (a : Outcome ReportOf) → report_of o ≡ summed a
+    → stamp_held (last_by o l) ≡ last_after (stamp_held l) a
+last_said (Ok r) l (done x) e = let q : held_summary r ≡ summary x = cc in λ j. found (record { epoch = (q j).batch.epoch; era = (q j).batch.era })
+last_said (Ok r) l (refused n) e = absurd (let z : ◌≡◌ {A = ℕ} 0 1 = cc in let w : ⊥ = omega arith in w)
+last_said (Err n) l (done x) e = absurd (let z : ◌≡◌ {A = ℕ} 0 1 = cc in let w : ⊥ = omega arith in w)
+last_said (Err n) l (refused m) e = refl
 
 -- the whole call, of the state s: v is the state behind the store, u that with the last report
 module _ (s v u : DynamicHoneyBadger) (t : Told) (kept : List SignedKeyGenMsgOf) (fs : List Fault) (ds : List DueItem) (b : BatchCall)
     (h : RanAs (parts_in v t) s.params s.vote_counter s.key_gen_state (store_of s.store) kept fs ds (processed base (state_of s) b))
-    (stored : store_of v.store ≡ store_by t.report.outcome t.restarted t.era (store_of s.store) kept)
-    (same : (n : ℕ) → t.report.outcome ≡ outcome.Refused n → v.store ≡ s.store) (l : ReportStamp)
-    (by_last : l ≡ last_by t.report.outcome t.report.batch.epoch t.report.batch.era s.last)
+    (stored : store_of v.store ≡ store_by t.report t.restarted t.era (store_of s.store) kept)
+    (same : (n : Refusal) → t.report ≡ Err n → v.store ≡ s.store) (l : Option ReportStamp)
+    (by_last : l ≡ last_by t.report s.last)
     (ends : u ≡ record { params = v.params; vote_counter = v.vote_counter; key_gen_state = v.key_gen_state; store = v.store; last = l }) where
   -- state and report
   pub answered_as : ProcessedAs (answered u t) (processed base (state_of s) b)
   answered_as =
       let q = stored ∙ h.by_store in
-      let kept-last = ap stamp_held by_last ∙ last_said t.report.outcome (held_summary t.report) s.last (processed base (state_of s) b).answer h.by_report ∙ sym (processed_last base (state_of s) b) in
+      let kept-last = ap stamp_held by_last ∙ last_said t.report s.last (processed base (state_of s) b).answer h.by_report ∙ sym (processed_last base (state_of s) b) in
       let e : state_of u ≡ (processed base (state_of s) b).state
       = ap state_of ends ∙ (λ j. record { counter = h.by_counter j; params = h.by_params j; key_gen = h.by_key_gen j; store = q j; last = kept-last j }) in
       (e, h.by_report)
@@ -151,7 +145,5 @@ module _ (s v u : DynamicHoneyBadger) (t : Told) (kept : List SignedKeyGenMsgOf)
   pub answered_keeps : BatchRefusedKeeps (answered u t) s
   answered_keeps n e =
       let g = h.refused_keeps n e in
-      let left = by_last ∙ ap (λ (o : BatchOutcome). last_by o t.report.batch.epoch t.report.batch.era s.last) e in
-      let a : u ≡ s =
-      ends ∙ (λ j. record { params = (g j).params; vote_counter = (g j).vote_counter; key_gen_state = (g j).key_gen_state; store = same n e j; last = left j }) in
-      λ j. answered (a j) (g j).told
+      let left = by_last ∙ ap (λ (o : Result Report Refusal). last_by o s.last) e in
+      ends ∙ (λ j. record { params = (g j).params; vote_counter = (g j).vote_counter; key_gen_state = (g j).key_gen_state; store = same n e j; last = left j })

@@ -8,7 +8,11 @@ use native.Mathlib.Omega.{arith}
 use lib.Dec.{ltb, lit<}
 use lib.ListN.{length, take}
 use borrow.Author.Tests.{ltb-false}
+use Rattle.std.specs.declared.result.Result.{Result}
+use Rattle.std.specs.declared.result.Result.TheVariants.{Ok, Err}
 use Rattle.bincode.specs.Sizes.{base}
+use Rattle.bincode.specs.declared.Refusal.{Refusal}
+use Rattle.bincode.proofs.ReadLaws.{crossed}
 use Rattle.bincode.specs.Stands.{Bytes}
 use Rattle.pub_key_map.specs.PubKeyMap.{nodes_of}
 use Rattle.fault_log.specs.declared.Fault.{Fault}
@@ -21,11 +25,8 @@ use Rattle.internal_contrib.specs.Index.{contribs_in}
 use Rattle.dynamic_honey_badger.specs.declared.DynamicHoneyBadger.{DynamicHoneyBadger}
 use Rattle.dynamic_honey_badger.specs.State.{state_of}
 use Rattle.commit.specs.Batch.{Lists}
-use Rattle.process_output.specs.declared.Opening.{Opening}
-use Rattle.process_output.specs.declared.Opening.TheVariants as opening
 use Rattle.process_output.specs.Process.{BatchCall, processed}
-use Rattle.process_batch.specs.declared.BatchOutcome.{BatchOutcome}
-use Rattle.process_batch.specs.declared.BatchOutcome.TheVariants as outcome
+use Rattle.process_batch.specs.declared.Report.{Report}
 use Rattle.process_batch.specs.declared.Told.{Told}
 use Rattle.process_batch.specs.declared.Worked.{Worked}
 use Rattle.process_batch.specs.declared.Settled.{Settled}
@@ -33,7 +34,7 @@ use Rattle.process_batch.specs.Answer.{denied_told, quiet_told, EpochFits, Quiet
 use Rattle.process_batch.specs.Worked.{WorkedBy, RanAs, Concluded, store_by}
 use Rattle.process_batch.proofs.ConcludeLaws.{quiet_concluded}
 use Rattle.process_batch.proofs.StoreLaws.{store_kept, store_none}
-use Rattle.process_batch.proofs.RunLaws.{no_report, ran_refused, ran_concluded, work_noted}
+use Rattle.process_batch.proofs.RunLaws.{ran_refused, ran_concluded, work_noted}
 use Rattle.process_batch.proofs.DoneLaws.{Noted, none_noted, parts_in}
 
 -- behind the steps the state is u and t is told: what these are of the batch step's answer, what the call's own lists hold, and what of the store is left
@@ -46,9 +47,9 @@ pub record Moved (s : DynamicHoneyBadger) (b : BatchCall) (w : Worked) (l : List
   pub few : length faults ≤ base.faults
   pub same_store : u.store ≡ s.store
   pub same_last : u.last ≡ s.last
-  pub left : t.report.outcome ≡ outcome.Reported
+  pub left : (r : Report) → t.report ≡ Ok r
       → kept_by b.bytes (contribs_in w.index) t.restarted t.era (store_of s.store) ≡ cond t.restarted (from_era t.era kept) kept
-  pub none_left : t.report.outcome ≡ outcome.Reported → store_of s.store ≡ [] → cond t.restarted (from_era t.era kept) kept ≡ []
+  pub none_left : (r : Report) → t.report ≡ Ok r → store_of s.store ≡ [] → cond t.restarted (from_era t.era kept) kept ≡ []
 
 module _ (s : DynamicHoneyBadger) (b : BatchCall) (bytes : Bytes b.bytes) (w : Worked) (l₀ l : Lists)
     (ids : length l₀.ids ≡ base.faults) (kinds : length l₀.kinds ≡ base.faults) (indices : length l₀.indices ≡ base.due)
@@ -58,7 +59,7 @@ module _ (s : DynamicHoneyBadger) (b : BatchCall) (bytes : Bytes b.bytes) (w : W
   moved d = record { params = d.params; vote_counter = d.vote_counter; key_gen_state = d.key_gen_state; store = s.store; last = s.last }
 
   -- steps 6 to 8 concluded
-  concluded : (epoch : ℕ) → WorkedBy (state_of s) b s.key_gen_state w l₀ l (opening.Epoch epoch) → (d : Settled)
+  concluded : (epoch : ℕ) → WorkedBy (state_of s) b s.key_gen_state w l₀ l (Ok epoch) → (d : Settled)
       → Concluded b.bytes s.params s.vote_counter s.key_gen_state epoch w.committed d → Moved s b w l (moved d) d.told
   concluded epoch g d h =
       record {
@@ -70,22 +71,22 @@ module _ (s : DynamicHoneyBadger) (b : BatchCall) (bytes : Bytes b.bytes) (w : W
         few = omega (arith, g.holds.faults.count, few);
         same_store = refl;
         same_last = refl;
-        left = λ e. store_kept (state_of s) b epoch w l₀ l g bytes d.told.restarted d.told.era;
-        none_left = λ e n. store_none (state_of s) b epoch w l₀ l g bytes n d.told.restarted d.told.era;
+        left = λ t e. store_kept (state_of s) b epoch w l₀ l g bytes d.told.restarted d.told.era;
+        none_left = λ t e n. store_none (state_of s) b epoch w l₀ l g bytes n d.told.restarted d.told.era;
       }
 
-  pub moved_settled : (o : Opening) → WorkedBy (state_of s) b s.key_gen_state w l₀ l o → IsEpoch o → (d : Settled)
+  pub moved_settled : (o : Result ℕ Refusal) → WorkedBy (state_of s) b s.key_gen_state w l₀ l o → IsEpoch o → (d : Settled)
       → Concluded b.bytes s.params s.vote_counter s.key_gen_state (epoch_of o) w.committed d → Moved s b w l (moved d) d.told
-  moved_settled (opening.Epoch epoch) g e d h = concluded epoch g d h
-  moved_settled (opening.Refused n) g e d h = absurd e
+  moved_settled (Ok epoch) g e d h = concluded epoch g d h
+  moved_settled (Err n) g e d h = absurd e
 
   -- nothing is decided, or a row before 7 refuses
-  pub moved_quiet : (o : Opening) → WorkedBy (state_of s) b s.key_gen_state w l₀ l o → QuietBy o w.committed (nodes_of s.vote_counter.pub_keys)
+  pub moved_quiet : (o : Result ℕ Refusal) → WorkedBy (state_of s) b s.key_gen_state w l₀ l o → QuietBy o w.committed (nodes_of s.vote_counter.pub_keys)
       → Moved s b w l (record { params = s.params; vote_counter = s.vote_counter; key_gen_state = w.committed.state; store = s.store; last = s.last })
       (quiet_told o w.committed s.vote_counter.era s.vote_counter.pub_keys s.params)
-  moved_quiet (opening.Epoch epoch) g q =
+  moved_quiet (Ok epoch) g q =
       concluded epoch g _ (quiet_concluded b.bytes s.params s.vote_counter s.key_gen_state epoch w.committed q owed)
-  moved_quiet (opening.Refused n) g q =
+  moved_quiet (Err n) g q =
       record {
         kept = [];
         faults = [];
@@ -98,66 +99,66 @@ module _ (s : DynamicHoneyBadger) (b : BatchCall) (bytes : Bytes b.bytes) (w : W
         few = omega arith;
         same_store = refl;
         same_last = refl;
-        left = λ e. absurd (no_report n e);
-        none_left = λ e m. absurd (no_report n e);
+        left = λ t e. absurd (crossed e);
+        none_left = λ t e m. absurd (crossed e);
       }
 
 -- a refused batch does not touch the store
-never_stirred : (n : ℕ) (some : Bool) → is_stirred (outcome.Refused n) some ≡ true → ⊥
+never_stirred : (n : Refusal) (some : Bool) → is_stirred (Err n) some ≡ true → ⊥
 never_stirred n some f = let o : ◌≡◌ {A = ℕ} 0 1 = cc in omega arith
 
 -- the store behind a batch
 module _ (s : DynamicHoneyBadger) (b : BatchCall) (w : Worked) (l : Lists) (u : DynamicHoneyBadger) (t : Told) (h : Moved s b w l u t) where
   -- it is changed: it held something, and the batch is reported
-  pub stirred : (o : BatchOutcome) → t.report.outcome ≡ o → (some : Bool) → is_stirred o some ≡ true → (k : MessageStore)
+  pub stirred : (o : Result Report Refusal) → t.report ≡ o → (some : Bool) → is_stirred o some ≡ true → (k : MessageStore)
       → store_of k ≡ kept_by b.bytes (contribs_in w.index) t.restarted t.era (store_of u.store)
       → store_of k ≡ store_by o t.restarted t.era (store_of s.store) h.kept
-  stirred outcome.Reported e some q k m =
-      m ∙ ap (λ (y : MessageStore). kept_by b.bytes (contribs_in w.index) t.restarted t.era (store_of y)) h.same_store ∙ h.left e
-  stirred (outcome.Refused n) e some q k m = absurd (never_stirred n some q)
+  stirred (Ok r) e some q k m =
+      m ∙ ap (λ (y : MessageStore). kept_by b.bytes (contribs_in w.index) t.restarted t.era (store_of y)) h.same_store ∙ h.left r e
+  stirred (Err n) e some q k m = absurd (never_stirred n some q)
 
   -- it stays: the batch is refused, or it held nothing
-  pub unstirred : (o : BatchOutcome) → t.report.outcome ≡ o → is_stirred o (ltb 0 s.store.count) ≡ false
+  pub unstirred : (o : Result Report Refusal) → t.report ≡ o → is_stirred o (ltb 0 s.store.count) ≡ false
       → store_of u.store ≡ store_by o t.restarted t.era (store_of s.store) h.kept
-  unstirred outcome.Reported e q =
+  unstirred (Ok r) e q =
       let z : s.store.count ≡ 0 = omega (arith, ltb-false 0 s.store.count q) in
       let n : store_of s.store ≡ [] = ap (λ (i : ℕ). map Rattle.key_gen_message.specs.KeyGenMessage.signed_of (take i s.store.messages)) z in
-      ap store_of h.same_store ∙ n ∙ sym (h.none_left e n)
-  unstirred (outcome.Refused n) e q = ap store_of h.same_store
+      ap store_of h.same_store ∙ n ∙ sym (h.none_left r e n)
+  unstirred (Err n) e q = ap store_of h.same_store
 
 -- the same of a state and of what is told that equal these
 pub moved_to : (s : DynamicHoneyBadger) (b : BatchCall) (w : Worked) (l : Lists) (u v : DynamicHoneyBadger) (t r : Told) → Moved s b w l u t → v ≡ u → r ≡ t → Moved s b w l v r
 moved_to s b w l u v t r h e f = subst (λ (y : Told). Moved s b w l v y) (sym f) (subst (λ (y : DynamicHoneyBadger). Moved s b w l y t) (sym e) h)
 
 -- the next epoch is a number of eight bytes, whether there is an epoch or not
-pub next_fits : (o : Opening) → EpochFits o → epoch_of o + 1 < 2 ^ 64
-next_fits (opening.Epoch epoch) f = f
-next_fits (opening.Refused n) f = lit< tt
+pub next_fits : (o : Result ℕ Refusal) → EpochFits o → epoch_of o + 1 < 2 ^ 64
+next_fits (Ok epoch) f = f
+next_fits (Err n) f = lit< tt
 
 -- behind the store: the other parts are the steps', the store is the definition's, a refusal keeps the very store, and the last report is still the one before
 pub record Stored (s u v : DynamicHoneyBadger) (t : Told) (kept : List SignedKeyGenMsgOf) : Type 0 where
   pub parts : parts_in v t ≡ parts_in u t
-  pub store : store_of v.store ≡ store_by t.report.outcome t.restarted t.era (store_of s.store) kept
-  pub same : (n : ℕ) → t.report.outcome ≡ outcome.Refused n → v.store ≡ s.store
+  pub store : store_of v.store ≡ store_by t.report t.restarted t.era (store_of s.store) kept
+  pub same : (n : Refusal) → t.report ≡ Err n → v.store ≡ s.store
   pub same_last : v.last ≡ s.last
 
 module _ (s : DynamicHoneyBadger) (b : BatchCall) (w : Worked) (l : Lists) (u v : DynamicHoneyBadger) (t : Told) (h : Moved s b w l u t) where
-  pub stored_changed : (some : Bool) → is_stirred t.report.outcome some ≡ true → (k : MessageStore)
+  pub stored_changed : (some : Bool) → is_stirred t.report some ≡ true → (k : MessageStore)
       → v ≡ record { params = u.params; vote_counter = u.vote_counter; key_gen_state = u.key_gen_state; store = k; last = u.last }
       → store_of k ≡ kept_by b.bytes (contribs_in w.index) t.restarted t.era (store_of u.store) → Stored s u v t h.kept
   stored_changed some q k e m =
       record {
         parts = ap (λ (y : DynamicHoneyBadger). parts_in y t) e;
-        store = ap (λ (y : DynamicHoneyBadger). store_of y.store) e ∙ stirred s b w l u t h t.report.outcome refl some q k m;
-        same = λ n r. absurd (never_stirred n some (ap (λ (o : BatchOutcome). is_stirred o some) (sym r) ∙ q));
+        store = ap (λ (y : DynamicHoneyBadger). store_of y.store) e ∙ stirred s b w l u t h t.report refl some q k m;
+        same = λ n r. absurd (never_stirred n some (ap (λ (o : Result Report Refusal). is_stirred o some) (sym r) ∙ q));
         same_last = ap (λ (y : DynamicHoneyBadger). y.last) e ∙ h.same_last;
       }
 
-  pub stored_same : is_stirred t.report.outcome (ltb 0 s.store.count) ≡ false → v ≡ u → Stored s u v t h.kept
+  pub stored_same : is_stirred t.report (ltb 0 s.store.count) ≡ false → v ≡ u → Stored s u v t h.kept
   stored_same q e =
       record {
         parts = ap (λ (y : DynamicHoneyBadger). parts_in y t) e;
-        store = ap (λ (y : DynamicHoneyBadger). store_of y.store) e ∙ unstirred s b w l u t h t.report.outcome refl q;
+        store = ap (λ (y : DynamicHoneyBadger). store_of y.store) e ∙ unstirred s b w l u t h t.report refl q;
         same = λ n r. ap (λ (y : DynamicHoneyBadger). y.store) e ∙ h.same_store;
         same_last = ap (λ (y : DynamicHoneyBadger). y.last) e ∙ h.same_last;
       }

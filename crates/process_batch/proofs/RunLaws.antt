@@ -5,7 +5,9 @@ use mathlib.Core.Path.{◌≡◌, refl, sym, ap, ◌∙◌, subst}
 use mathlib.Core.List.{[], map}
 use native.Mathlib.Omega.{arith}
 use lib.ListN.{length, take, length-map}
+use Rattle.bincode.specs.Rows.{row_number}
 use Rattle.bincode.specs.Sizes.{base}
+use Rattle.bincode.specs.declared.Refusal.{Refusal}
 use Rattle.filled.specs.Numbers.{fault_id, kind_number, due_index}
 use Rattle.message_store.specs.MessageStore.{store_of}
 use Rattle.dynamic_honey_badger.specs.declared.DynamicHoneyBadger.{DynamicHoneyBadger}
@@ -14,22 +16,16 @@ use Rattle.steps.specs.Steps.{WorkOf, committed, begun}
 use Rattle.steps.proofs.KeepLaws.{batch_counter, batch_params}
 use Rattle.commit.specs.Batch.{Lists}
 use Rattle.process_output.specs.Process.{BatchCall, processed, denied}
-use Rattle.process_batch.specs.declared.BatchOutcome.{BatchOutcome}
-use Rattle.process_batch.specs.declared.BatchOutcome.TheVariants as outcome
 use Rattle.process_batch.specs.declared.Worked.{Worked}
 use Rattle.process_batch.specs.declared.Settled.{Settled}
 use Rattle.process_batch.specs.Answer.{as_given}
 use Rattle.process_batch.specs.Worked.{Working, RanAs, Concluded}
-use Rattle.process_batch.proofs.ConcludeLaws.{never_refused}
+use Rattle.bincode.proofs.ReadLaws.{crossed}
 use Rattle.process_batch.proofs.DoneLaws.{Noted, taken_filled}
-
--- a refusal is no report
-pub no_report : (n : ℕ) → ◌≡◌ {A = BatchOutcome} (outcome.Refused n) outcome.Reported → ⊥
-no_report n e = never_refused n (sym e)
 
 module _ (s : DynamicHoneyBadger) (b : BatchCall) where
   -- a row before 7 refuses
-  pub ran_refused : (n : ℕ) → processed base (state_of s) b ≡ denied (state_of s) n
+  pub ran_refused : (n : Refusal) → processed base (state_of s) b ≡ denied (state_of s) (row_number n)
       → RanAs (as_given s.params s.vote_counter s.key_gen_state n) s.params s.vote_counter s.key_gen_state (store_of s.store) [] [] [] (processed base (state_of s) b)
   ran_refused n e =
       subst (RanAs (as_given s.params s.vote_counter s.key_gen_state n) s.params s.vote_counter s.key_gen_state (store_of s.store) [] [] []) (sym e)
@@ -41,9 +37,8 @@ module _ (s : DynamicHoneyBadger) (b : BatchCall) where
         by_report = refl;
         by_faults = refl;
         by_due = refl;
-        no_recipe = λ q. refl;
         refused_keeps = λ m q. let r : n ≡ m = cc in ap (as_given s.params s.vote_counter s.key_gen_state) r;
-        by_acks = λ q. absurd (no_report n q);
+        by_acks = λ t q. absurd (crossed q);
       })
 
   -- they let it pass

@@ -3,7 +3,10 @@
 use Prim.Native.Nat.{ℕ, ◌+◌, ◌^◌, ◌<◌}
 use mathlib.Core.Path.{◌≡◌, refl, sym, ap, ◌∙◌, subst}
 use mathlib.Core.List.{List, []}
+use Rattle.std.specs.declared.result.Result.{Result}
+use Rattle.std.specs.declared.result.Result.TheVariants.{Ok, Err}
 use Rattle.bincode.specs.Outcome.{Outcome, done}
+use Rattle.bincode.specs.declared.Refusal.{Refusal}
 use Rattle.bincode.specs.Sizes.{base}
 use Rattle.bincode.specs.Stands.{Bytes}
 use Rattle.pub_key_map.specs.declared.Node.{Node}
@@ -18,8 +21,6 @@ use Rattle.commit.specs.declared.Committed.{Committed}
 use Rattle.commit.specs.declared.tally.Tally.{Tally}
 use Rattle.commit.specs.Tally.{begun_with}
 use Rattle.commit.specs.Batch.{Lists, Holds, BatchCommitted}
-use Rattle.process_output.specs.declared.Opening.{Opening}
-use Rattle.process_output.specs.declared.Opening.TheVariants as opening
 use Rattle.process_output.specs.declared.Opened.{Opened}
 use Rattle.process_output.specs.Refusals.{batch_row7}
 use Rattle.process_output.specs.Process.{BatchCall}
@@ -28,18 +29,8 @@ use Rattle.process_output.proofs.OpeningLaws.{opened_refused, opened_epoch, open
 use Rattle.process_batch.specs.Answer.{EpochFits, IsEpoch, Quiet, QuietBy}
 use Rattle.process_batch.specs.Worked.{Working, WorkedBy, WorkedAs}
 
--- by the opening: a refusal, or an epoch
-module _ (o : Opening) (n : ℕ) (c : Committed) (ns : List Node) where
-  pub refused_quiet : o ≡ opening.Refused n → QuietBy o c ns
-  refused_quiet e = subst (λ (x : Opening). QuietBy x c ns) (sym e) tt
-
-  pub epoch_quiet : o ≡ opening.Epoch n → Quiet c ns → QuietBy o c ns
-  epoch_quiet e q = subst (λ (x : Opening). QuietBy x c ns) (sym e) q
-
-pub is_epoch : (o : Opening) (n : ℕ) → o ≡ opening.Epoch n → IsEpoch o
-is_epoch o n e = subst IsEpoch (sym e) tt
-
-pub fits_epoch : (o : Opening) (n : ℕ) → o ≡ opening.Epoch n → EpochFits o → n + 1 < 2 ^ 64
+-- an epoch that fits
+pub fits_epoch : (o : Result ℕ Refusal) (n : ℕ) → o ≡ Ok n → EpochFits o → n + 1 < 2 ^ 64
 fits_epoch o n e f = subst EpochFits e f
 
 module _ (b : BatchCall) (era : ℕ) (o : Opened) (h : OpenedAs o (opened base era b) (read_batch base b.bytes)) where
@@ -47,11 +38,11 @@ module _ (b : BatchCall) (era : ℕ) (o : Opened) (h : OpenedAs o (opened base e
   pub opening_fits : EpochFits o.opening
   opening_fits = go o.opening refl
     where
-      go : (x : Opening) → o.opening ≡ x → EpochFits x
-      go (opening.Epoch epoch) q =
+      go : (x : Result ℕ Refusal) → o.opening ≡ x → EpochFits x
+      go (Ok epoch) q =
           let v = opened_read_lem base era b epoch (sym h.0 ∙ ap said_opening q) in
           epoch_fits epoch (ap row5 v.4 ∙ v.3)
-      go (opening.Refused n) q = tt
+      go (Err n) q = tt
 
   module _ (ns : List Node) (k : KeyGenState) (bytes : Bytes b.bytes) (t : Tally) (d : Committed) (l l' : Lists)
       (c : BatchCommitted b.bytes era ns b.verdicts t (running.state_of k) o.index d l l') (same : contribs_in o.index ≡ [] → d.state ≡ k) where
@@ -65,7 +56,7 @@ module _ (b : BatchCall) (era : ℕ) (o : Opened) (h : OpenedAs o (opened base e
         by_state : OpenedAs o (opened base (era_of st) b) (read_batch base b.bytes)
         by_state = subst (λ (x : Outcome ℕ). OpenedAs o x (read_batch base b.bytes)) said h
 
-        begun : (epoch : ℕ) → o.opening ≡ opening.Epoch epoch → Working st b epoch (record { opening = o.opening; index = o.index; committed = d }) l l'
+        begun : (epoch : ℕ) → o.opening ≡ Ok epoch → Working st b epoch (record { opening = o.opening; index = o.index; committed = d }) l l'
         begun epoch q =
             let x = opened_epoch st b o by_state epoch q bytes in
             let w = committed base st b.verdicts x.cs in
@@ -80,6 +71,6 @@ module _ (b : BatchCall) (era : ℕ) (o : Opened) (h : OpenedAs o (opened base e
               answer = x.comes;
             }
 
-        go : (x : Opening) → o.opening ≡ x → WorkedBy st b k (record { opening = o.opening; index = o.index; committed = d }) l l' x
-        go (opening.Epoch epoch) q = begun epoch q
-        go (opening.Refused n) q = let x = opened_refused st b o by_state n q in (x.1, same x.0)
+        go : (x : Result ℕ Refusal) → o.opening ≡ x → WorkedBy st b k (record { opening = o.opening; index = o.index; committed = d }) l l' x
+        go (Ok epoch) q = begun epoch q
+        go (Err n) q = let x = opened_refused st b o by_state n q in (x.1, same x.0)

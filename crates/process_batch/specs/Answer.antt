@@ -1,16 +1,20 @@
 -- A batch call's answer as code gives it: the parts of the state, and a report with the numbers of faults and due items, which stand in the lent lists.
-use Rattle.std.specs.Prelude.{ℕ, ◌+◌, ◌^◌, ◌≤◌, ◌<◌, ◌≡◌, List, [], ◌∷◌, ◌++◌, map, Bool, true, false, cond, ltb, length, take}
+use Rattle.std.specs.Prelude.{ℕ, ◌+◌, ◌^◌, ◌≤◌, ◌<◌, ◌≡◌, List, [], ◌∷◌, ◌++◌, map, Bool, false, cond, ltb, length, take, Ok, Err, Some, None}
+use Rattle.std.specs.declared.option.Option.{Option}
+use Rattle.std.specs.declared.result.Result.{Result}
 use Rattle.lists.specs.Lists.{Found}
 use Rattle.util.specs.MaxFaulty.{max_faulty}
 use Rattle.bincode.specs.Outcome.{Outcome, done, refused}
+use Rattle.bincode.specs.Answer.{outcome_as_said}
 use Rattle.bincode.specs.Sizes.{Sizes, base}
+use Rattle.bincode.specs.declared.Refusal.{Refusal}
 use Rattle.pub_key_map.specs.declared.Node.{Node}
 use Rattle.pub_key_map.specs.declared.PubKeyMap.{PubKeyMap}
 use Rattle.due.specs.declared.DueKind.TheVariants.{Part}
 use Rattle.due.specs.declared.DueItem.{DueItem}
 use Rattle.change.specs.Change.{none, state_held}
-use Rattle.recipe.specs.Recipe.{RecipeOf, empty_recipe}
-use Rattle.batch.specs.Batch.{BatchOf, batch_of, no_batch}
+use Rattle.recipe.specs.Recipe.{RecipeOf}
+use Rattle.batch.specs.Batch.{BatchOf, batch_of}
 use Rattle.params.specs.declared.Params.{Params}
 use Rattle.key_gen_message.specs.KeyGenMessage.{SignedKeyGenMsgOf}
 use Rattle.key_gen_state.specs.declared.KeyGenState.{KeyGenState}
@@ -28,11 +32,7 @@ use Rattle.commit.specs.Tally.{entries_of, any_fresh}
 use Rattle.store_filter.specs.Filter.{entries_in, without_entries}
 use Rattle.decision.specs.declared.Decision.{Decision}
 use Rattle.decision.specs.Decision.{said_recipe}
-use Rattle.process_output.specs.declared.Opening.{Opening}
-use Rattle.process_output.specs.declared.Opening.TheVariants as opening
 use Rattle.process_output.specs.Process.{ReportOf, ProcessedOf}
-use Rattle.process_batch.specs.declared.BatchOutcome.{BatchOutcome}
-use Rattle.process_batch.specs.declared.BatchOutcome.TheVariants as outcome
 use Rattle.process_batch.specs.declared.Report.{Report}
 use Rattle.process_batch.specs.declared.Told.{Told}
 use Rattle.process_batch.specs.declared.Settled.{Settled}
@@ -53,25 +53,27 @@ summed (done x) = done (summary x)
 summed (refused n) = refused n
 
 -- as code gives it
-abbrev pub said_batch : BatchOutcome → Summary → Outcome Summary
-said_batch outcome.Reported x = done x
-said_batch (outcome.Refused n) x = refused n
-
 abbrev pub held_summary : Report → Summary
-held_summary r = record { batch = batch_of r.batch; faults = r.faults; due = r.due; recipe = said_recipe r.has_recipe r.recipe }
+held_summary r = record { batch = batch_of r.batch; faults = r.faults; due = r.due; recipe = said_recipe r.recipe }
 
-abbrev pub report_of : Report → Outcome Summary
-report_of r = said_batch r.outcome (held_summary r)
+abbrev pub report_of : Result Report Refusal → Outcome Summary
+report_of o = outcome_as_said held_summary o
 
--- what stands beside a refusal: the empty report, no faults, no due items, no recipe
-abbrev pub no_report : ℕ → Report
-no_report n = record { outcome = outcome.Refused n; batch = no_batch; faults = 0; due = 0; has_recipe = false; recipe = empty_recipe }
+-- how many faults, and how many due items, it tells; a refusal tells of none
+abbrev pub faults_told : Result Report Refusal → ℕ
+faults_told (Ok r) = r.faults
+faults_told (Err n) = 0
 
-abbrev pub denied_told : ℕ → Told
-denied_told n = record { report = no_report n; restarted = false; era = 0; acks = 0 }
+abbrev pub due_told : Result Report Refusal → ℕ
+due_told (Ok r) = r.due
+due_told (Err n) = 0
+
+-- a refusal, with which no era begins and no item is due
+abbrev pub denied_told : Refusal → Told
+denied_told n = record { report = Err n; restarted = false; era = 0; acks = 0 }
 
 -- a refusal leaves the parts as they were
-abbrev pub as_given : Params → VoteCounter → KeyGenState → ℕ → Settled
+abbrev pub as_given : Params → VoteCounter → KeyGenState → Refusal → Settled
 as_given p c k n = record { params = p; vote_counter = c; key_gen_state = k; told = denied_told n }
 
 -- how many items are due: the acks, and a part behind them where one is due, as far as the lent list reaches
@@ -96,14 +98,13 @@ settled_by d era epoch c =
       vote_counter = d.vote_counter;
       key_gen_state = d.key_gen_state;
       told = record {
-        report = record {
-          outcome = outcome.Reported;
-          batch = record { epoch = epoch; era = era; change = d.change; pub_keys = d.vote_counter.pub_keys; params = d.params };
-          faults = c.faults;
-          due = due_count base c.due d.part_due;
-          has_recipe = d.has_recipe;
-          recipe = d.recipe;
-        };
+        report = Ok
+            (record {
+              batch = record { epoch = epoch; era = era; change = d.change; pub_keys = d.vote_counter.pub_keys; params = d.params };
+              faults = c.faults;
+              due = due_count base c.due d.part_due;
+              recipe = d.recipe;
+            });
         restarted = d.restarted;
         era = epoch + 1;
         acks = c.due;
@@ -114,35 +115,34 @@ settled_by d era epoch c =
 abbrev pub nothing_decided : ℕ → ℕ → PubKeyMap → Params → ℕ → ℕ → Told
 nothing_decided epoch era m p faults acks =
     record {
-      report = record {
-        outcome = outcome.Reported;
-        batch = record { epoch = epoch; era = era; change = state_held none; pub_keys = m; params = p };
-        faults = faults;
-        due = acks;
-        has_recipe = false;
-        recipe = empty_recipe;
-      };
+      report = Ok
+          (record {
+            batch = record { epoch = epoch; era = era; change = state_held none; pub_keys = m; params = p };
+            faults = faults;
+            due = acks;
+            recipe = None;
+          });
       restarted = false;
       era = epoch + 1;
       acks = acks;
     }
 
-abbrev pub quiet_told : Opening → Committed → ℕ → PubKeyMap → Params → Told
-quiet_told (opening.Epoch epoch) c era m p = nothing_decided epoch era m p c.faults c.due
-quiet_told (opening.Refused n) c era m p = denied_told n
+abbrev pub quiet_told : Result ℕ Refusal → Committed → ℕ → PubKeyMap → Params → Told
+quiet_told (Ok epoch) c era m p = nothing_decided epoch era m p c.faults c.due
+quiet_told (Err n) c era m p = denied_told n
 
 -- the epoch, as far as there is one, and that the next one is a number of eight bytes
-abbrev pub epoch_of : Opening → ℕ
-epoch_of (opening.Epoch epoch) = epoch
-epoch_of (opening.Refused n) = 0
+abbrev pub epoch_of : Result ℕ Refusal → ℕ
+epoch_of (Ok epoch) = epoch
+epoch_of (Err n) = 0
 
-abbrev pub EpochFits : Opening → Type 0
-EpochFits (opening.Epoch epoch) = epoch + 1 < 2 ^ 64
-EpochFits (opening.Refused n) = Unit {0}
+abbrev pub EpochFits : Result ℕ Refusal → Type 0
+EpochFits (Ok epoch) = epoch + 1 < 2 ^ 64
+EpochFits (Err n) = Unit {0}
 
-abbrev pub IsEpoch : Opening → Type 0
-IsEpoch (opening.Epoch epoch) = Unit {0}
-IsEpoch (opening.Refused n) = ⊥
+abbrev pub IsEpoch : Result ℕ Refusal → Type 0
+IsEpoch (Ok epoch) = Unit {0}
+IsEpoch (Err n) = ⊥
 
 -- nothing is decided: no vote of the batch stayed, key generation is not ready, and at most f votes stand
 pub record Quiet (c : Committed) (ns : List Node) : Type 0 where
@@ -150,35 +150,28 @@ pub record Quiet (c : Committed) (ns : List Node) : Type 0 where
   pub not_ready : running.ready_state (running.state_of c.state) ≡ false
   pub few : length (entries_of c.tally) ≤ max_faulty (length ns)
 
-abbrev pub QuietBy : Opening → Committed → List Node → Type 0
-QuietBy (opening.Epoch epoch) c ns = Quiet c ns
-QuietBy (opening.Refused n) c ns = Unit {0}
+abbrev pub QuietBy : Result ℕ Refusal → Committed → List Node → Type 0
+QuietBy (Ok epoch) c ns = Quiet c ns
+QuietBy (Err n) c ns = Unit {0}
 
 -- the store changes only where it holds something and the batch is reported
-abbrev pub is_stirred : BatchOutcome → Bool → Bool
-is_stirred outcome.Reported some = some
-is_stirred (outcome.Refused n) some = false
+abbrev pub is_stirred : Result Report Refusal → Bool → Bool
+is_stirred (Ok r) some = some
+is_stirred (Err n) some = false
 
 -- the store once the messages of a batch have gone, and those of lower eras where an era began
 abbrev pub kept_by : List ℕ → List Contrib → Bool → ℕ → List SignedKeyGenMsgOf → List SignedKeyGenMsgOf
 kept_by s ks restarted era st = cond restarted (from_era era (without_entries (entries_in s ks) st)) (without_entries (entries_in s ks) st)
 
 -- 02, CR 1: the last report behind a batch: the one that it returned, with its own epoch and era; a refusal leaves the one before
-abbrev pub last_by : BatchOutcome → ℕ → ℕ → ReportStamp → ReportStamp
-last_by outcome.Reported epoch era l = record { given = true; epoch = epoch; era = era }
-last_by (outcome.Refused n) epoch era l = l
+abbrev pub last_by : Result Report Refusal → Option ReportStamp → Option ReportStamp
+last_by (Ok r) l = Some (record { epoch = r.batch.epoch; era = r.batch.era })
+last_by (Err n) l = l
+
+-- beside a refusal stands the very state that was given, places that do not count included
+abbrev pub BatchRefusedKeeps : Processed → DynamicHoneyBadger → Type 0
+BatchRefusedKeeps r s = (n : Refusal) → r.outcome ≡ Err n → r.state ≡ s
 
 -- the whole answer
-abbrev pub held_report : Processed → Report
-held_report r = record { outcome = r.outcome; batch = r.batch; faults = r.faults; due = r.due; has_recipe = r.has_recipe; recipe = r.recipe }
-
--- beside a refusal stand the very state that was given, places that do not count included, and the empty report
-abbrev pub refused_with : DynamicHoneyBadger → ℕ → Processed
-refused_with s n =
-    record { state = s; outcome = outcome.Refused n; batch = no_batch; faults = 0; due = 0; has_recipe = false; recipe = empty_recipe }
-
-abbrev pub BatchRefusedKeeps : Processed → DynamicHoneyBadger → Type 0
-BatchRefusedKeeps r s = (n : ℕ) → r.outcome ≡ outcome.Refused n → r ≡ refused_with s n
-
 abbrev pub ProcessedAs : Processed → ProcessedOf → Type 0
-ProcessedAs r x = (state_of r.state ≡ x.state) × (report_of (held_report r) ≡ summed x.answer)
+ProcessedAs r x = (state_of r.state ≡ x.state) × (report_of r.outcome ≡ summed x.answer)

@@ -6,12 +6,11 @@ use Rattle.bincode.specs.Outcome.{Outcome, done, refused}
 use Rattle.fault_log.specs.declared.Fault.{Fault}
 use Rattle.due.specs.declared.DueItem.{DueItem}
 use Rattle.bincode.specs.Sizes.{base}
-use Rattle.recipe.specs.Recipe.{NoRecipeEmpty}
 use Rattle.dynamic_honey_badger.specs.declared.DynamicHoneyBadger.{DynamicHoneyBadger}
 use Rattle.dynamic_honey_badger.specs.State.{state_of}
 use Rattle.process_output.specs.Process.{BatchCall, ReportOf, processed}
 use Rattle.process_batch.specs.declared.Processed.{Processed}
-use Rattle.process_batch.specs.Answer.{ProcessedAs, BatchRefusedKeeps}
+use Rattle.process_batch.specs.Answer.{faults_told, ProcessedAs, BatchRefusedKeeps}
 
 -- the lists as numbers
 pub record Lists : Type 0 where
@@ -53,4 +52,4 @@ Filled a l l' =
 abbrev pub BatchDone : DynamicHoneyBadger → ℕ → ℕ → List ℕ → List ℕ → Lists → Processed → Lists → Type 0
 BatchDone s era inner bytes verdicts l r l' =
     let x = processed base (state_of s) (lent_call era inner bytes verdicts l) in
-    ProcessedAs r x × BatchRefusedKeeps r s × NoRecipeEmpty r.has_recipe r.recipe × Filled x.answer l l' × (r.faults ≤ base.faults)
+    ProcessedAs r x × BatchRefusedKeeps r s × Filled x.answer l l' × (faults_told r.outcome ≤ base.faults)

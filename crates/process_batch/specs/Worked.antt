@@ -1,13 +1,15 @@
 -- A batch call cut in three: all rows but 7 with steps 2 to 5, steps 6 to 8 with row 7, and the store; each tied to the batch step's own definition.
-use Rattle.std.specs.Prelude.{ℕ, ◌≤◌, ◌≡◌, List, [], ◌++◌, map, Bool, cond, length}
+use Rattle.std.specs.Prelude.{ℕ, ◌≤◌, ◌≡◌, List, [], ◌++◌, map, Bool, cond, length, Ok, Err}
+use Rattle.std.specs.declared.result.Result.{Result}
 use Rattle.lists.specs.Lists.{Found}
 use Rattle.bincode.specs.Read.{value}
+use Rattle.bincode.specs.Rows.{row_number}
 use Rattle.bincode.specs.Sizes.{base}
+use Rattle.bincode.specs.declared.Refusal.{Refusal}
 use Rattle.pub_key_map.specs.declared.Node.{Node}
 use Rattle.pub_key_map.specs.PubKeyMap.{nodes_of}
 use Rattle.fault_log.specs.declared.Fault.{Fault}
 use Rattle.due.specs.declared.DueItem.{DueItem}
-use Rattle.recipe.specs.Recipe.{NoRecipeEmpty}
 use Rattle.params.specs.declared.Params.{Params}
 use Rattle.key_gen_message.specs.KeyGenMessage.{SignedKeyGenMsgOf}
 use Rattle.key_gen_state.specs.declared.KeyGenState.{KeyGenState}
@@ -24,14 +26,11 @@ use Rattle.commit.specs.declared.tally.Tally.{Tally}
 use Rattle.commit.specs.Tally.{entries_of, kept_entry, begun_with, VotesHeld}
 use Rattle.commit.specs.Batch.{Lists, Holds}
 use Rattle.decision.specs.Decision.{parts_of, empty_wins}
-use Rattle.process_output.specs.declared.Opening.{Opening}
-use Rattle.process_output.specs.declared.Opening.TheVariants as opening
 use Rattle.process_output.specs.Process.{BatchCall, ProcessedOf, processed, denied, finished}
-use Rattle.process_batch.specs.declared.BatchOutcome.{BatchOutcome}
-use Rattle.process_batch.specs.declared.BatchOutcome.TheVariants as outcome
+use Rattle.process_batch.specs.declared.Report.{Report}
 use Rattle.process_batch.specs.declared.Worked.{Worked}
 use Rattle.process_batch.specs.declared.Settled.{Settled}
-use Rattle.process_batch.specs.Answer.{summed, report_of, as_given, part_behind}
+use Rattle.process_batch.specs.Answer.{summed, report_of, due_told, as_given, part_behind}
 use Rattle.process_batch.specs.Lent.{faults_in, due_in}
 
 -- a batch of a state st that all rows but 7 let pass: its contributions, where they stand, and what the loop over them holds of their work
@@ -45,9 +44,9 @@ pub record Working (st : StateOf) (b : BatchCall) (epoch : ℕ) (w : Worked) (l 
       ≡ cond (empty_wins (committed base st b.verdicts contribs).state) (denied st 7) (finished base st epoch (committed base st b.verdicts contribs))
 
 -- one that they refuse keeps the very key generation that was given
-abbrev pub WorkedBy : StateOf → BatchCall → KeyGenState → Worked → Lists → Lists → Opening → Type 0
-WorkedBy st b k w l l' (opening.Epoch epoch) = Working st b epoch w l l'
-WorkedBy st b k w l l' (opening.Refused n) = (processed base st b ≡ denied st n) × (w.committed.state ≡ k)
+abbrev pub WorkedBy : StateOf → BatchCall → KeyGenState → Worked → Lists → Lists → Result ℕ Refusal → Type 0
+WorkedBy st b k w l l' (Ok epoch) = Working st b epoch w l l'
+WorkedBy st b k w l l' (Err n) = (processed base st b ≡ denied st (row_number n)) × (w.committed.state ≡ k)
 
 -- of every state with this era, map and key generation, whose committed votes the tally holds
 abbrev pub WorkedAs : BatchCall → ℕ → List Node → Tally → KeyGenState → Worked → Lists → Lists → Type 0
@@ -56,14 +55,14 @@ WorkedAs b era ns t k w l l' =
     → entries_of t ≡ map kept_entry st.counter.committed → length (entries_of t) ≤ base.nodes → WorkedBy st b k w l l' w.opening
 
 -- the store after a batch of which `kept` is left; a refusal leaves it
-abbrev pub store_by : BatchOutcome → Bool → ℕ → List SignedKeyGenMsgOf → List SignedKeyGenMsgOf → List SignedKeyGenMsgOf
-store_by outcome.Reported restarted era st kept = cond restarted (from_era era kept) kept
-store_by (outcome.Refused n) restarted era st kept = st
+abbrev pub store_by : Result Report Refusal → Bool → ℕ → List SignedKeyGenMsgOf → List SignedKeyGenMsgOf → List SignedKeyGenMsgOf
+store_by (Ok r) restarted era st kept = cond restarted (from_era era kept) kept
+store_by (Err n) restarted era st kept = st
 
 -- faults, or due items, of a batch; a refusal has none
-abbrev pub list_by : {A : Type 0} → BatchOutcome → List A → List A
-list_by outcome.Reported xs = xs
-list_by (outcome.Refused n) xs = []
+abbrev pub list_by : {A : Type 0} → Result Report Refusal → List A → List A
+list_by (Ok r) xs = xs
+list_by (Err n) xs = []
 
 -- what the steps give, of the definition's answer x, for a store st of which `kept` is left: the parts of the state, the report, and what goes into the lists; a
 -- refusal leaves the very parts that were given
@@ -71,14 +70,13 @@ pub record RanAs (r : Settled) (p : Params) (c : VoteCounter) (k : KeyGenState) 
   pub by_params : r.params ≡ x.state.params
   pub by_counter : counter_of r.vote_counter ≡ x.state.counter
   pub by_key_gen : running.state_of r.key_gen_state ≡ x.state.key_gen
-  pub by_store : store_by r.told.report.outcome r.told.restarted r.told.era st kept ≡ x.state.store
+  pub by_store : store_by r.told.report r.told.restarted r.told.era st kept ≡ x.state.store
   pub by_report : report_of r.told.report ≡ summed x.answer
-  pub by_faults : list_by r.told.report.outcome fs ≡ faults_in x.answer
-  pub by_due : list_by r.told.report.outcome (ds ++ part_behind r.told.acks r.told.report.due r.told.era) ≡ due_in x.answer
-  pub no_recipe : NoRecipeEmpty r.told.report.has_recipe r.told.report.recipe
-  pub refused_keeps : (n : ℕ) → r.told.report.outcome ≡ outcome.Refused n → r ≡ as_given p c k n
+  pub by_faults : list_by r.told.report fs ≡ faults_in x.answer
+  pub by_due : list_by r.told.report (ds ++ part_behind r.told.acks (due_told r.told.report) r.told.era) ≡ due_in x.answer
+  pub refused_keeps : (n : Refusal) → r.told.report ≡ Err n → r ≡ as_given p c k n
   -- as many acks and faults are told as there are
-  pub by_acks : (r.told.report.outcome ≡ outcome.Reported) → (length fs ≡ r.told.report.faults) × (length ds ≡ r.told.acks)
+  pub by_acks : (t : Report) → r.told.report ≡ Ok t → (length fs ≡ t.faults) × (length ds ≡ r.told.acks)
 
 -- steps 6 to 8 and row 7, for every work w that the loop over contributions may have held
 abbrev pub Concluded : List ℕ → Params → VoteCounter → KeyGenState → ℕ → Committed → Settled → Type 0

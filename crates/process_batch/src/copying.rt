@@ -9,57 +9,37 @@ use due::{DueItem, DueKind};
 pub(crate) fn copy_ids(to: &mut [u32], from: &[u32], n: usize)
     ensures { to.new ≡ filled (take n from.now) to.old }
 {
-    let end = filled::shorter_of(n, filled::shorter_of(to.len(), from.len()));
-    let mut i: usize = 0;
-    while i < end {
-        to[i] = from[i];
-        i += 1;
-    }
+    let end = n.min(to.len()).min(from.len());
+    to[..end].copy_from_slice(&from[..end]);
 }
 
 pub(crate) fn copy_kinds(to: &mut [u8], from: &[u8], n: usize)
     ensures { to.new ≡ filled (take n from.now) to.old }
 {
-    let end = filled::shorter_of(n, filled::shorter_of(to.len(), from.len()));
-    let mut i: usize = 0;
-    while i < end {
-        to[i] = from[i];
-        i += 1;
-    }
+    let end = n.min(to.len()).min(from.len());
+    to[..end].copy_from_slice(&from[..end]);
 }
 
 fn copy_indices(to: &mut [u64], from: &[u64], n: usize)
     ensures { to.new ≡ filled (take n from.now) to.old }
 {
-    let end = filled::shorter_of(n, filled::shorter_of(to.len(), from.len()));
-    let mut i: usize = 0;
-    while i < end {
-        to[i] = from[i];
-        i += 1;
-    }
+    let end = n.min(to.len()).min(from.len());
+    to[..end].copy_from_slice(&from[..end]);
 }
 
 // A number at the first n places of a list, as far as it reaches.
 fn fill_kinds(to: &mut [u8], n: usize, x: u8)
     ensures { to.new ≡ filled (replicate n x) to.old }
 {
-    let end = filled::shorter_of(n, to.len());
-    let mut i: usize = 0;
-    while i < end {
-        to[i] = x;
-        i += 1;
-    }
+    let end = n.min(to.len());
+    to[..end].fill(x);
 }
 
 fn fill_eras(to: &mut [u64], n: usize, x: u64)
     ensures { to.new ≡ filled (replicate n x) to.old }
 {
-    let end = filled::shorter_of(n, to.len());
-    let mut i: usize = 0;
-    while i < end {
-        to[i] = x;
-        i += 1;
-    }
+    let end = n.min(to.len());
+    to[..end].fill(x);
 }
 
 // The acks that are due, then a part where one more is due: kinds, proposers' indices, eras.

@@ -11,16 +11,17 @@ ghost use Rattle.message_store.specs.MessageStore.{store_of};
 ghost use Rattle.internal_contrib.specs.Index.{contribs_in};
 ghost use Rattle.decision.specs.Decision.{elected_of, is_empty_map};
 ghost use Rattle.process_output.specs.Opening.{call_of};
-ghost use Rattle.process_batch.specs.Answer.{denied_told, nothing_decided, quiet_told, EpochFits, IsEpoch, QuietBy, as_given, settled_by, due_count, epoch_of, kept_by, is_stirred, last_by};
+ghost use Rattle.process_batch.specs.Answer.{denied_told, nothing_decided, quiet_told, EpochFits, IsEpoch, QuietBy, as_given, settled_by, due_count, epoch_of, kept_by, is_stirred, faults_told, due_told, last_by};
 ghost use Rattle.process_batch.specs.Worked.{WorkedAs, Concluded};
 ghost use Rattle.process_batch.specs.Lent.{BatchDone};
 
 use crate::copying::{copy_ids, copy_kinds, write_due};
 use batch::Batch;
-use change::ChangeState;
+use bincode::Refusal;
+use change::{Change, ChangeState};
 use commit::Committed;
 use commit::tally::Tally;
-use decision::{Decision, Elected};
+use decision::Decision;
 use due::DueList;
 use dynamic_honey_badger::{DynamicHoneyBadger, ReportStamp};
 use fault_log::FaultLog;
@@ -28,43 +29,34 @@ use internal_contrib::BatchIndex;
 use key_gen_state::KeyGenState;
 use message_store::MessageStore;
 use params::Params;
-use process_output::Opening;
 use pub_key_map::PubKeyMap;
 use recipe::Recipe;
 use vote_counter::VoteCounter;
 
 mod copying;
 
-#[derive(Clone, Copy)]
-pub enum BatchOutcome {
-    Reported,
-    Refused(u8),
-}
-
-// A report with what stands beside it, faults and due items by their numbers; where the batch was refused, all is empty.
+// A report with what stands beside it, faults and due items by their numbers.
 #[derive(Clone, Copy)]
 pub struct Report {
-    pub outcome: BatchOutcome,
     pub batch: Batch,
     pub faults: usize,
     pub due: usize,
-    pub has_recipe: bool,
-    pub recipe: Recipe,
+    pub recipe: Option<Recipe>,
 }
 
 // All rows but 7, and steps 2 to 5: the batch's epoch or the refusal met first, where its contributions stand, and what they came to.
 #[derive(Clone, Copy)]
 pub struct Worked {
-    pub opening: Opening,
+    pub opening: Result<u64, Refusal>,
     pub index: BatchIndex,
     pub committed: Committed,
 }
 
-// The report, and what the store and the lent lists need beside it: whether an era began, the era behind the batch, and how many of
+// The report or the refusal, and what the store and the lent lists need beside it: whether an era began, the era behind the batch, and how many of
 // the due items are acks; a part may stand behind them.
 #[derive(Clone, Copy)]
 pub struct Told {
-    pub report: Report,
+    pub report: Result<Report, Refusal>,
     pub restarted: bool,
     pub era: u64,
     pub acks: usize,
@@ -79,31 +71,39 @@ pub struct Settled {
     pub told: Told,
 }
 
-// The state after a batch, and the report; where the batch was refused, the state given and all else empty.
+// The state after a batch, and the report; where the batch was refused, the state given.
 #[derive(Clone, Copy)]
 pub struct Processed {
     pub state: DynamicHoneyBadger,
-    pub outcome: BatchOutcome,
-    pub batch: Batch,
-    pub faults: usize,
-    pub due: usize,
-    pub has_recipe: bool,
-    pub recipe: Recipe,
+    pub outcome: Result<Report, Refusal>,
+}
+
+// How many faults stand in the lent lists: those of the report, none beside a refusal.
+pub fn fault_count(outcome: &Result<Report, Refusal>) -> usize
+    ensures { result ≡ faults_told outcome.now }
+{
+    match outcome {
+        Ok(r) => r.faults,
+        Err(_) => 0,
+    }
+}
+
+// How many due items stand in the lent lists: those of the report, none beside a refusal.
+fn due_told(outcome: &Result<Report, Refusal>) -> usize
+    ensures { result ≡ due_told outcome.now }
+{
+    match outcome {
+        Ok(r) => r.due,
+        Err(_) => 0,
+    }
 }
 
 // A refusal.
-fn denied(n: u8) -> Told
-    ensures { result ≡ denied_told n }
+fn denied(r: Refusal) -> Told
+    ensures { result ≡ denied_told r }
 {
     Told {
-        report: Report {
-            outcome: BatchOutcome::Refused(n),
-            batch: Batch::empty(),
-            faults: 0,
-            due: 0,
-            has_recipe: false,
-            recipe: Recipe::empty(),
-        },
+        report: Err(r),
         restarted: false,
         era: 0,
         acks: 0,
@@ -123,8 +123,7 @@ fn nothing_decided(
     ensures { result ≡ nothing_decided epoch era pub_keys params faults acks }
 {
     Told {
-        report: Report {
-            outcome: BatchOutcome::Reported,
+        report: Ok(Report {
             batch: Batch {
                 epoch,
                 era,
@@ -134,9 +133,8 @@ fn nothing_decided(
             },
             faults,
             due: acks,
-            has_recipe: false,
-            recipe: Recipe::empty(),
-        },
+            recipe: None,
+        }),
         restarted: false,
         era: epoch + 1,
         acks,
@@ -151,8 +149,8 @@ fn quiet(w: Worked, era: u64, pub_keys: PubKeyMap, params: Params) -> Told
     let opening = w.opening;
     let c = w.committed;
     match opening {
-        Opening::Refused(n) => denied(n),
-        Opening::Epoch(epoch) => nothing_decided(epoch, era, pub_keys, params, c.faults, c.due),
+        Err(r) => denied(r),
+        Ok(epoch) => nothing_decided(epoch, era, pub_keys, params, c.faults, c.due),
     }
 }
 
@@ -164,26 +162,15 @@ fn is_quiet(w: Worked, map: PubKeyMap) -> bool
     let c = w.committed;
     let t = c.tally;
     let state = c.state;
-    let Opening::Epoch(_) = opening else {
-        return true;
-    };
-    if t.has_fresh() {
-        return false;
-    }
-    if state.is_ready() {
-        return false;
-    }
-    t.len() <= network_info::num_faulty(map)
+    opening.is_err()
+        || (!t.has_fresh() && !state.is_ready() && t.len() <= network_info::num_faulty(map))
 }
 
 // Row 7: an empty map wins, and key generation is not ready.
-fn is_void(state: KeyGenState, e: Elected) -> bool
+fn is_void(state: KeyGenState, e: Option<Change>) -> bool
     ensures { result ≡ cond (running.ready_state (running.state_of state)) false (is_empty_map (elected_of e)) }
 {
-    if state.is_ready() {
-        return false;
-    }
-    decision::is_empty_map(e)
+    !state.is_ready() && decision::is_empty_map(e)
 }
 
 // How many items are due: the acks, and a part behind them where one is due.
@@ -191,23 +178,27 @@ fn due_count(acks: usize, part_due: bool) -> usize
     requires { acks ≤ base.due }
     ensures { result ≡ due_count base acks part_due }
 {
-    if part_due {
-        if acks < DueList::LIMIT {
-            return acks + 1;
-        }
+    if part_due && acks < DueList::LIMIT {
+        acks + 1
+    } else {
+        acks
     }
-    acks
 }
 
 // A refusal leaves the parts that were given.
-fn as_given(params: Params, vote_counter: VoteCounter, key_gen_state: KeyGenState, n: u8) -> Settled
-    ensures { result ≡ as_given params vote_counter key_gen_state n }
+fn as_given(
+    params: Params,
+    vote_counter: VoteCounter,
+    key_gen_state: KeyGenState,
+    r: Refusal,
+) -> Settled
+    ensures { result ≡ as_given params vote_counter key_gen_state r }
 {
     Settled {
         params,
         vote_counter,
         key_gen_state,
-        told: denied(n),
+        told: denied(r),
     }
 }
 
@@ -227,8 +218,7 @@ fn with_report(d: Decision, era: u64, epoch: u64, c: Committed) -> Settled
         vote_counter,
         key_gen_state,
         told: Told {
-            report: Report {
-                outcome: BatchOutcome::Reported,
+            report: Ok(Report {
                 batch: Batch {
                     epoch,
                     era,
@@ -238,9 +228,8 @@ fn with_report(d: Decision, era: u64, epoch: u64, c: Committed) -> Settled
                 },
                 faults: c.faults,
                 due: due_count(c.due, d.part_due),
-                has_recipe: d.has_recipe,
                 recipe,
-            },
+            }),
             restarted: d.restarted,
             era: epoch + 1,
             acks: c.due,
@@ -265,20 +254,17 @@ fn settle(
     let after = commit::voting::put_votes(counter, s, t);
     let e = decision::elect(after);
     if is_void(state, e) {
-        return as_given(params, counter, before, 7);
+        return as_given(params, counter, before, Refusal::EmptyMapWins);
     }
     let d = decision::decide(params, after, state, epoch + 1, e);
     with_report(d, counter.era, epoch, c)
 }
 
 // The epoch of a batch that no row but 7 refuses.
-fn epoch_of(opening: Opening) -> u64
+fn epoch_of(opening: Result<u64, Refusal>) -> u64
     ensures { result ≡ epoch_of opening }
 {
-    match opening {
-        Opening::Epoch(epoch) => epoch,
-        Opening::Refused(_) => 0,
-    }
+    opening.unwrap_or(0)
 }
 
 // All rows but 7, then steps 2 to 5; a refused batch has no contribution noted.
@@ -324,45 +310,32 @@ fn work(
 }
 
 // Whether the store may change: it holds something, and the batch is reported.
-fn stirs(held: usize, told: Told) -> bool
-    ensures { result ≡ is_stirred told.report.outcome (ltb 0 held) }
+fn stirs(held: usize, report: &Result<Report, Refusal>) -> bool
+    ensures { result ≡ is_stirred report.now (ltb 0 held) }
 {
-    let report = told.report;
-    let outcome = report.outcome;
-    match outcome {
-        BatchOutcome::Reported => 0 < held,
-        BatchOutcome::Refused(_) => false,
-    }
+    report.is_ok() && 0 < held
 }
 
-// The stored messages once the batch's have gone, and those of lower eras where an era began.
-fn kept(
-    store: MessageStore,
-    batch: &[u8],
-    index: BatchIndex,
-    restarted: bool,
-    era: u64,
-) -> MessageStore
-    ensures { store_of result ≡ kept_by batch.now (contribs_in index) restarted era (store_of store) }
+// In place: the stored messages without the batch's, and without those of lower eras where an era began.
+fn keep(store: &mut MessageStore, batch: &[u8], index: BatchIndex, restarted: bool, era: u64)
+    ensures { store_of store.new ≡ kept_by batch.now (contribs_in index) restarted era (store_of store.old) }
 {
-    let left = store_filter::without_batch(store, batch, index);
+    *store = store_filter::without_batch(*store, batch, index);
     if restarted {
-        return left.from_era(era);
+        *store = store.from_era(era);
     }
-    left
 }
 
 // The last report behind a batch: the one that it returned; a refusal leaves the one before.
-fn last_after(last: ReportStamp, outcome: BatchOutcome, epoch: u64, era: u64) -> ReportStamp
-    ensures { result ≡ last_by outcome epoch era last }
+fn last_after(last: Option<ReportStamp>, told: &Told) -> Option<ReportStamp>
+    ensures { result ≡ last_by told.now.report last }
 {
-    match outcome {
-        BatchOutcome::Reported => ReportStamp {
-            given: true,
-            epoch,
-            era,
-        },
-        BatchOutcome::Refused(_) => last,
+    match &told.report {
+        Ok(r) => Some(ReportStamp {
+            epoch: r.batch.epoch,
+            era: r.batch.era,
+        }),
+        Err(_) => last,
     }
 }
 
@@ -443,18 +416,15 @@ pub fn process_batch(
         state.key_gen_state = next_state;
         told = d.told;
     }
-    if stirs(held, told) {
-        let store = state.store;
-        let index = w.index;
-        let left = kept(store, batch, index, told.restarted, told.era);
-        state.store = left;
+    if stirs(held, &told.report) {
+        keep(&mut state.store, batch, w.index, told.restarted, told.era);
     }
-    let report = told.report;
-    copy_ids(fault_ids, &ids, report.faults);
-    copy_kinds(fault_kinds, &kinds, report.faults);
+    let faults = fault_count(&told.report);
+    copy_ids(fault_ids, &ids, faults);
+    copy_kinds(fault_kinds, &kinds, faults);
     write_due(
         told.acks,
-        report.due,
+        due_told(&told.report),
         era,
         told.era,
         &indices,
@@ -462,18 +432,9 @@ pub fn process_batch(
         due_indices,
         due_eras,
     );
-    let outcome = report.outcome;
-    let b = report.batch;
-    let recipe = report.recipe;
-    let last = state.last;
-    state.last = last_after(last, outcome, b.epoch, b.era);
+    state.last = last_after(state.last, &told);
     Processed {
         state,
-        outcome,
-        batch: b,
-        faults: report.faults,
-        due: report.due,
-        has_recipe: report.has_recipe,
-        recipe,
+        outcome: told.report,
     }
 }

@@ -10,22 +10,26 @@ use lib.Dec.{ltb, eqb, lit<}
 use lib.ListN.{length}
 use Rattle.lists.proofs.ListLaws.{cond_yes, cond_no}
 use Rattle.bincode.specs.Read.{Read, value, refuse}
+use Rattle.std.specs.declared.result.Result.{Result}
+use Rattle.std.specs.declared.result.Result.TheVariants.{Ok, Err}
+use Rattle.std.specs.Result.{is_err}
 use Rattle.bincode.specs.Outcome.{Outcome, done, refused}
+use Rattle.bincode.specs.Rows.{row_number}
+use Rattle.bincode.specs.declared.Refusal.{Refusal}
 use Rattle.bincode.specs.Sizes.{Sizes, base}
 use Rattle.bincode.specs.Stands.{Bytes}
+use Rattle.internal_contrib.specs.declared.BatchIndex.{BatchIndex}
 use Rattle.internal_contrib.specs.declared.Contrib.{Contrib}
 use Rattle.internal_contrib.specs.InternalContrib.{ContribOf, read_batch}
-use Rattle.internal_contrib.specs.Places.{message_count}
 use Rattle.internal_contrib.specs.Index.{placed_from, placed_in, contribs_in, EachKept}
 use Rattle.internal_contrib.proofs.KeptLaws.{batch_kept}
-use Rattle.dynamic_honey_badger.specs.Asked.{row5, epoch_in}
+use Rattle.dynamic_honey_badger.specs.Asked.{row5, epoch_in, said_next}
 use Rattle.dynamic_honey_badger.specs.State.{StateOf, era_of}
 use Rattle.steps.specs.Steps.{committed}
 use Rattle.process_output.specs.Refusals.{some, no_verdict, batch_row1, batch_row4, batch_row15, batch_row7}
 use Rattle.process_output.specs.Process.{BatchCall, ProcessedOf, denied, finished, processed_contribs, processed_read, processed}
-use Rattle.process_output.specs.declared.Opening.TheVariants as opening
 use Rattle.process_output.specs.declared.Opened.{Opened}
-use Rattle.process_output.specs.Opening.{opened_contribs, opened_read, opened, places_of, said_opening, OpenedAs}
+use Rattle.process_output.specs.Opening.{opened_contribs, opened_read, opened, places_of, said_opening, OpenedAs, EpochBy}
 
 -- an epoch that is answered is the sum, and the era behind it is a u64
 module _ (era inner : ℕ) where
@@ -52,35 +56,19 @@ module _ (era inner : ℕ) where
       go true q = absurd (never (sym (ap (λ (x : Bool). cond x (refused 5) (done (era + inner))) q) ∙ e))
       go false q = (q, same (sym (ap (λ (x : Bool). cond x (refused 5) (done (era + inner))) q) ∙ e))
 
--- rows 4, 15 and 5 of a batch that was read
-module _ (era : ℕ) (b : BatchCall) (cs : List ContribOf) where
-  -- 4: the verdicts
-  pub open_verdicts : batch_row4 cs b.verdicts ≡ true → opened_contribs era b cs ≡ refused 4
-  unfolding opened_contribs
-  open_verdicts h = cond_yes _ _ h
+  -- so an epoch that is refused is just one over the limit
+  pub late_as : (r : Result ℕ Refusal) → said_next r ≡ epoch_in era inner → is_err r ≡ row5 (era + inner)
+  late_as (Ok epoch) q = sym (epoch_done epoch (sym q)).0
+  late_as (Err n) q = sym (epoch_refused (row_number n) (sym q))
 
-  module _ (judged : batch_row4 cs b.verdicts ≡ false) where
-    -- 15: the batch's era
-    pub open_era : batch_row15 era b.era ≡ true → opened_contribs era b cs ≡ refused 15
-    unfolding opened_contribs
-    open_era h = cond_no _ _ judged ∙ cond_yes _ _ h
-
-    module _ (own : batch_row15 era b.era ≡ false) where
-      -- 5: the epoch
-      pub open_epoch : row5 (era + b.inner) ≡ true → opened_contribs era b cs ≡ refused 5
-      unfolding opened_contribs
-      open_epoch h = cond_no _ _ judged ∙ cond_no _ _ own ∙ cond_yes _ _ h
-
-      -- none of them
-      pub open_done : row5 (era + b.inner) ≡ false → opened_contribs era b cs ≡ done (era + b.inner)
-      unfolding opened_contribs
-      open_done h = cond_no _ _ judged ∙ cond_no _ _ own ∙ cond_no _ _ h
-
--- row 4 by the number of key messages that was counted
-pub verdicts_row : (cs : List ContribOf) (verdicts : List ℕ) (messages : ℕ) → messages ≡ message_count cs
-    → not (eqb (length verdicts) messages) || some no_verdict verdicts ≡ batch_row4 cs verdicts
-unfolding batch_row4
-verdicts_row cs verdicts messages e = ap (λ (n : ℕ). not (eqb (length verdicts) n) || some no_verdict verdicts) e
+-- rows 4, 15 and 5 of a batch that was read, by what their tests answered
+module _ (era batch-era inner : ℕ) (verdicts : List ℕ) (messages : ℕ) (r4 r15 r5 : Bool)
+    (ill-formed : r4 ≡ not (eqb (length verdicts) messages) || some no_verdict verdicts) (other : r15 ≡ batch_row15 era batch-era) (late : r5 ≡ row5 (era + inner)) where
+  pub by_rows : (o : Result ℕ Refusal) → said_opening o ≡ cond r4 (refused 4) (cond r15 (refused 15) (cond r5 (refused 5) (done (era + inner)))) → EpochBy o era batch-era inner verdicts messages
+  unfolding opened_contribs batch_row4
+  by_rows o q bytes cs places dues e =
+      let row4 = ill-formed ∙ ap (λ (n : ℕ). not (eqb (length verdicts) n) || some no_verdict verdicts) e in
+      q ∙ (λ j. cond (row4 j) (refused 4) (cond (other j) (refused 15) (cond (late j) (refused 5) (done (era + inner)))))
 
 -- rows 1 to 3
 module _ (z : Sizes) (era : ℕ) (b : BatchCall) where
@@ -170,14 +158,14 @@ module _ (z : Sizes) (s : StateOf) (b : BatchCall) where
 module _ (s : StateOf) (b : BatchCall) (r : Opened)
     (h : OpenedAs r (opened base (era_of s) b) (read_batch base b.bytes)) where
   -- refused: no contribution is noted
-  pub opened_refused : (n : ℕ) → r.opening ≡ opening.Refused n → (contribs_in r.index ≡ []) × (processed base s b ≡ denied s n)
+  pub opened_refused : (n : Refusal) → r.opening ≡ Err n → (contribs_in r.index ≡ []) × (processed base s b ≡ denied s (row_number n))
   opened_refused n q =
-      let o : opened base (era_of s) b ≡ refused n = sym h.0 ∙ ap said_opening q in (
+      let o : opened base (era_of s) b ≡ refused (row_number n) = sym h.0 ∙ ap said_opening q in (
         h.1 ∙ ap (λ (y : Outcome ℕ). places_of y (read_batch base b.bytes)) o,
         processed_opened base s b ∙ ap (after_opening base s b (read_batch base b.bytes)) o ∙ after (read_batch base b.bytes),
       )
     where
-      after : (x : Read (List ContribOf)) → after_opening base s b x (refused n) ≡ denied s n
+      after : (x : Read (List ContribOf)) → after_opening base s b x (refused (row_number n)) ≡ denied s (row_number n)
       after (value cs c) = refl
       after (refuse m) = refl
 
@@ -191,7 +179,7 @@ module _ (s : StateOf) (b : BatchCall) (r : Opened)
     pub fits : epoch + 1 < 2 ^ 64
     pub comes : processed base s b ≡ cond (batch_row7 base s b.verdicts cs) (denied s 7) (finished base s epoch (committed base s b.verdicts cs))
 
-  pub opened_epoch : (epoch : ℕ) → r.opening ≡ opening.Epoch epoch → Bytes b.bytes → Begun epoch
+  pub opened_epoch : (epoch : ℕ) → r.opening ≡ Ok epoch → Bytes b.bytes → Begun epoch
   opened_epoch epoch q bytes =
       let o : opened base (era_of s) b ≡ done epoch = sym h.0 ∙ ap said_opening q in
       let v = opened_read_lem base (era_of s) b epoch o in
@@ -206,9 +194,12 @@ module _ (s : StateOf) (b : BatchCall) (r : Opened)
       }
 
 -- an answer as code gives it
-module _ (r : Opened) (n : ℕ) (o : Outcome ℕ) (x : Read (List ContribOf)) where
-  pub refused_as : (r.opening ≡ opening.Refused n) × (contribs_in r.index ≡ []) → o ≡ refused n → OpenedAs r o x
-  refused_as q e = (ap said_opening q.0 ∙ sym e, q.1 ∙ ap (λ (y : Outcome ℕ). places_of y x) (sym e))
+module _ (r : Opened) (o : Outcome ℕ) (x : Read (List ContribOf)) where
+  pub refused_as : (n : Refusal) → (r.opening ≡ Err n) × (contribs_in r.index ≡ []) → o ≡ refused (row_number n) → OpenedAs r o x
+  refused_as n q e = (ap said_opening q.0 ∙ sym e, q.1 ∙ ap (λ (y : Outcome ℕ). places_of y x) (sym e))
 
-  pub done_as : r.opening ≡ opening.Epoch n → contribs_in r.index ≡ placed_in x → o ≡ done n → OpenedAs r o x
-  done_as q k e = (ap said_opening q ∙ sym e, k ∙ ap (λ (y : Outcome ℕ). places_of y x) (sym e))
+-- the index that was read stands beside an epoch; beside a refusal it counts none
+pub read_as : (o : Result ℕ Refusal) (index i : BatchIndex) (x : Outcome ℕ) (cs : List ContribOf) (c : ℕ) → (is_err o ≡ true → contribs_in i ≡ []) → (is_err o ≡ false → i ≡ index)
+    → said_opening o ≡ x → contribs_in index ≡ placed_from 8 cs → OpenedAs (record { opening = o; index = i }) x (value cs c)
+read_as (Ok epoch) index i x cs c none same q k = (q, ap contribs_in (same refl) ∙ k ∙ ap (λ (y : Outcome ℕ). places_of y (value cs c)) q)
+read_as (Err n) index i x cs c none same q k = (q, none refl ∙ ap (λ (y : Outcome ℕ). places_of y (value cs c)) q)

@@ -1,29 +1,12 @@
--- Whether a test holds of some element: looked for place by place.
+-- Whether a test holds of some element, as `any` answers it.
 -- Assumes nothing.
-use Prim.Native.Nat.{ℕ, ◌+◌, ◌≤◌, ◌<◌}
-use mathlib.Core.Path.{◌≡◌}
-use mathlib.Core.List.{List}
-use mathlib.Core.Bool.{Bool, true, false}
-use native.Mathlib.Numerals.{add-one}
-use lib.ListN.{length, drop, get_or}
-use lib.Seq.{drop-cons}
-use Rattle.lists.proofs.ListLaws.{rest_none}
+use mathlib.Core.Path.{◌≡◌, refl, ap}
+use mathlib.Core.List.{List, [], ◌∷◌}
+use mathlib.Core.Bool.{Bool, ◌||◌}
+use Rattle.std.specs.List.{list_any}
 use Rattle.process_output.specs.Refusals.{some}
 
-module _ {A : Type 0} (p : A → Bool) where
-  -- place by place
-  module _ (xs : List A) (i : ℕ) where
-    -- it holds here
-    pub some_here : (z : A) → i < length xs → p (get_or xs i z) ≡ true → some p (drop i xs) ≡ true
-    unfolding some
-    some_here z h e = rw (drop-cons xs i z h, e)
-
-    -- it does not hold here
-    pub some_later : (z : A) → i < length xs → p (get_or xs i z) ≡ false → some p (drop i xs) ≡ some p (drop (i + 1) xs)
-    unfolding some
-    some_later z h e = rw (add-one, drop-cons xs i z h, e)
-
-    -- no element is left
-    pub some_past : length xs ≤ i → some p (drop i xs) ≡ false
-    unfolding some
-    some_past h = rw (rest_none xs i h)
+pub some_any : {A : Type 0} (p : A → Bool) (xs : List A) → list_any p xs ≡ some p xs
+unfolding some
+some_any p [] = refl
+some_any p (x ∷ xs) = ap (λ (b : Bool). p x || b) (some_any p xs)

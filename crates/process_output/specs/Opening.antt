@@ -1,16 +1,17 @@
 -- Rows 1 to 4, 15 and 5 of a batch call, before anything is done: what they need of the state is the era.
 use Rattle.std.specs.Prelude.{ℕ, ◌+◌, ◌≡◌, List, [], cond}
+use Rattle.std.specs.declared.result.Result.{Result}
 use Rattle.bincode.specs.Read.{Read, value, refuse}
 use Rattle.bincode.specs.Outcome.{Outcome, done, refused}
+use Rattle.bincode.specs.Answer.{outcome_as_said}
 use Rattle.bincode.specs.Sizes.{Sizes}
+use Rattle.bincode.specs.declared.Refusal.{Refusal}
 use Rattle.internal_contrib.specs.declared.Contrib.{Contrib}
 use Rattle.internal_contrib.specs.InternalContrib.{ContribOf, read_batch}
 use Rattle.internal_contrib.specs.declared.BatchIndex.{BatchIndex}
 use Rattle.internal_contrib.specs.Places.{message_count}
 use Rattle.internal_contrib.specs.Index.{placed_from, placed_in, contribs_in}
 use Rattle.dynamic_honey_badger.specs.Asked.{row5}
-use Rattle.process_output.specs.declared.Opening.{Opening}
-use Rattle.process_output.specs.declared.Opening.TheVariants as opening
 use Rattle.process_output.specs.declared.Opened.{Opened}
 use Rattle.process_output.specs.Refusals.{batch_row1, batch_row4, batch_row15}
 use Rattle.process_output.specs.Process.{BatchCall}
@@ -37,9 +38,8 @@ places_of (done epoch) x = placed_in x
 places_of (refused n) x = []
 
 -- as code says it
-abbrev pub said_opening : Opening → Outcome ℕ
-said_opening (opening.Epoch epoch) = done epoch
-said_opening (opening.Refused n) = refused n
+abbrev pub said_opening : Result ℕ Refusal → Outcome ℕ
+said_opening r = outcome_as_said (λ (epoch : ℕ). epoch) r
 
 abbrev pub OpenedAs : Opened → Outcome ℕ → Read (List ContribOf) → Type 0
 OpenedAs r o x = (said_opening r.opening ≡ o) × (contribs_in r.index ≡ places_of o x)
@@ -49,7 +49,12 @@ abbrev pub call_of : ℕ → ℕ → List ℕ → List ℕ → ℕ → ℕ → B
 call_of era inner bytes verdicts fault_places due_places =
     record { era = era; inner = inner; bytes = bytes; verdicts = verdicts; fault_places = fault_places; due_places = due_places }
 
--- rows 4, 15 and 5, said of a batch that is read
+-- rows 4, 15 and 5, said of a batch that is read: the epoch alone, and with where its contributions stand
+abbrev pub EpochBy : Result ℕ Refusal → ℕ → ℕ → ℕ → List ℕ → ℕ → Type 0
+EpochBy r era batch-era inner verdicts messages =
+    (bytes : List ℕ) (cs : List ContribOf) (places dues : ℕ) → messages ≡ message_count cs
+    → said_opening r ≡ opened_contribs era (call_of batch-era inner bytes verdicts places dues) cs
+
 abbrev pub OpenedBy : Opened → ℕ → ℕ → ℕ → List ℕ → ℕ → BatchIndex → Type 0
 OpenedBy r era batch-era inner verdicts messages index =
     (bytes : List ℕ) (cs : List ContribOf) (c places dues : ℕ) → messages ≡ message_count cs → contribs_in index ≡ placed_from 8 cs

@@ -1,4 +1,4 @@
--- Laws of maps: their length in bytes, equality, and the turns of the loops over them.
+-- Laws of maps: their length in bytes, and equality.
 -- Assumes nothing.
 use Prim.Native.Nat.{◌+◌, ◌*◌}
 use mathlib.Core.Path.{◌≡◌, refl}
@@ -13,6 +13,7 @@ use Rattle.bincode.specs.Numbers.{fixed}
 use Rattle.bincode.specs.Stands.{concat_map}
 use Rattle.bincode.proofs.NumberLaws.{length_bytes_of}
 use Rattle.pub_key_map.specs.declared.Node.{Node}
+use Rattle.pub_key_map.specs.contracts.NodePartialEq.TheImpl.{eq-value}
 use Rattle.pub_key_map.specs.PubKeyMap.{same_node, same_nodes, node_bytes, map_bytes}
 
 pub length_node : (n : Node) → length (node_bytes fixed n) ≡ 12
@@ -45,3 +46,8 @@ map_true = eq_list_true same_node node_true
 
 pub map_refl : (xs : List Node) → same_nodes xs xs ≡ true
 map_refl = eq_list_refl same_node node_refl
+
+-- `==` of nodes is what the definitions call the same
+pub node_eq : (a b : Node) → (eq-value).it a b ≡ same_node a b
+unfolding same_node
+node_eq a b = refl

@@ -6,12 +6,8 @@ use Rattle.bincode.specs.Numbers.{Edition}
 use Rattle.bincode.specs.Sizes.{Sizes, base}
 use Rattle.bincode.specs.Items.{counted}
 use Rattle.bincode.specs.Stands.{concat, concat_map, Each}
-use Rattle.bincode.specs.Answer.{step_of, held_of}
 use Rattle.pub_key_map.specs.declared.Node.{Node}
 use Rattle.pub_key_map.specs.declared.PubKeyMap.{PubKeyMap}
-use Rattle.pub_key_map.specs.declared.ReadMap.{ReadMap}
-use Rattle.pub_key_map.specs.declared.ReadNode.{ReadNode}
-use Rattle.pub_key_map.specs.declared.ReadNode.TheVariants as node
 
 -- the nodes of any value of the struct: those below the count, as far as the array reaches
 abbrev pub nodes_of : PubKeyMap → List Node
@@ -64,11 +60,3 @@ pub record NodeOk (low : ℕ) (n : Node) : Type 0 where
 pub record MapOk (z : Sizes) (ns : List Node) : Type 0 where
   pub few : length ns ≤ z.nodes
   pub each : Each following NodeOk 0 ns
-
--- the answers as code gives them
-abbrev pub said_node : ReadNode → Read Node
-said_node (node.Value n c) = value n c
-said_node (node.Refused n) = refuse n
-
-abbrev pub map_answer : Read (List Node) → ReadMap
-map_answer x = record { step = step_of x; map = held_of map_held (map_held []) x }

@@ -15,11 +15,11 @@ use Rattle.lists.proofs.ListLaws.{rest_none}
 use Rattle.network_info.specs.NetworkInfo.{is_member}
 use Rattle.key_gen.specs.declared.KeyGen.{KeyGen}
 use Rattle.key_gen.specs.declared.Proposal.{Proposal}
-use Rattle.key_gen.specs.KeyGen.{ProposalOf, by_proposer, proposal_at, is_recorded, complete, indices, threshold, key_gen_of}
+use Rattle.key_gen.specs.KeyGen.{ProposalOf, by_proposer, proposal_at, is_recorded, complete, complete_at, indices, threshold, key_gen_of}
 use Rattle.recipe.specs.declared.Share.{Share}
 use Rattle.recipe.specs.declared.RecipeKind.{RecipeKind}
 use Rattle.recipe.specs.Recipe.{observer, share, missing, share_of, some_short, recipe, no_share, kind_of, share_at, is_complete, place_of, recipe_of_kind, recipe_of}
-use Rattle.recipe.specs.Places.{first_marks, complete_at, short_at, share_with, share_for}
+use Rattle.recipe.specs.Places.{first_marks, short_at, share_with, share_for}
 
 -- the first n marked places are the first n of the marked places
 pub first_marked : (bs : List Bool) (n i : ℕ) → marked (λ b. b) (λ k b. k) i (first_marks n bs) ≡ take n (marked (λ b. b) (λ k b. k) i bs)

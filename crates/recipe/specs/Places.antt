@@ -1,7 +1,7 @@
 -- What the recipe holds place by place: of one proposal, whether it is complete, whether it has too few good values, and its share.
-use Rattle.std.specs.Prelude.{ℕ, ◌+◌, ◌-◌, ◌*◌, List, [], ◌∷◌, Bool, true, false, cond, ◌&&◌, length, ltb}
+use Rattle.std.specs.Prelude.{ℕ, ◌+◌, ◌-◌, List, [], ◌∷◌, Bool, true, false, cond, ◌&&◌, length, ltb}
 use Rattle.key_gen.specs.declared.Proposal.{Proposal}
-use Rattle.key_gen.specs.KeyGen.{indices}
+use Rattle.key_gen.specs.KeyGen.{indices, complete_at}
 use Rattle.recipe.specs.declared.Share.{Share}
 use Rattle.recipe.specs.Recipe.{no_share}
 
@@ -10,11 +10,7 @@ unfoldable pub first_marks : ℕ → List Bool → List Bool
 first_marks n [] = []
 first_marks n (b ∷ bs) = cond b (cond (ltb 0 n) (true ∷ first_marks (n - 1) bs) (false ∷ first_marks n bs)) (false ∷ first_marks n bs)
 
--- the part at a place is recorded and complete
-unfoldable pub complete_at : ℕ → Proposal → Bool
-complete_at t p = cond p.recorded (ltb (2 * t) (length (indices p.acks))) false
-
--- it is complete and has fewer than t+1 good values
+-- the part at a place is complete and has fewer than t+1 good values
 unfoldable pub short_at : ℕ → Proposal → Bool
 short_at t p = complete_at t p && ltb (length (indices p.good)) (t + 1)
 

@@ -1,6 +1,6 @@
 -- 01: `generate` becomes a recipe: complete proposers ascending and, for each, the first t+1 acknowledgers with good values, by ascending
 -- index; an observer's names proposers only; if fewer exist, the recipe says that the share is missing.
-use Rattle.std.specs.Prelude.{ℕ, ◌+◌, ◌≡◌, List, [], ◌∷◌, map, Bool, false, cond, ◌||◌, length, take, replicate, ltb}
+use Rattle.std.specs.Prelude.{ℕ, ◌+◌, List, [], ◌∷◌, map, Bool, false, cond, ◌||◌, length, take, replicate, ltb}
 use Rattle.lists.specs.Lists.{marked, filter}
 use Rattle.bincode.specs.Sizes.{base}
 use Rattle.key_gen.specs.KeyGen.{ProposalOf, KeyGenOf, by_proposer, threshold, observes, complete, indices}
@@ -40,13 +40,6 @@ recipe g =
 -- as code holds it: flags by index
 abbrev pub no_share : Share
 no_share = record { complete = false; used = replicate base.nodes false }
-
-abbrev pub empty_recipe : Recipe
-empty_recipe = record { kind = kind.Observer; shares = replicate base.nodes no_share }
-
--- where there is no recipe, the empty one stands there
-abbrev pub NoRecipeEmpty : Bool → Recipe → Type 0
-NoRecipeEmpty has r = has ≡ false → r ≡ empty_recipe
 
 abbrev pub kind_of : Bool → Bool → RecipeKind
 kind_of member short = cond member (cond short kind.Missing kind.Share) kind.Observer

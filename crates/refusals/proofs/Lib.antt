@@ -8,3 +8,4 @@ pub mod DueItemCauses
 pub mod CauseRows
 pub mod EntryCauses
 pub mod NeverSix
+pub mod RowsOnly

@@ -32,7 +32,7 @@ unfolding unanswered lookup_rows
 reading_never z bytes id n e q =
     by_table (lookup_rows z bytes) (lookup_rows_lem z bytes id) refl (ap (λ (x : Read (List ContribOf)). refusal_of (contributed x id)) e ∙ ap found q)
 
-shows_none : (x : Read (List ContribOf)) (id n : ℕ) → x ≡ refuse n → user_of x id ≡ []
+pub shows_none : (x : Read (List ContribOf)) (id n : ℕ) → x ≡ refuse n → user_of x id ≡ []
 shows_none x id n e = rw e
 
 -- the reference state's rows are 2, 3, 5 and 7

@@ -33,7 +33,7 @@ module _ {A : Type 0} where
   unfolding whole
   answers_whole P rd s p = answers_bind P P (rd 0) _ p λ a c q. answers_choice P (ltb c (length s)) _ _ (λ e. inl refl) (λ e. q)
 
-  plain_whole : (rd : ℕ → Read A) (s : List ℕ) → Plain (rd 0) → Plain (whole rd s)
+  pub plain_whole : (rd : ℕ → Read A) (s : List ℕ) → Plain (rd 0) → Plain (whole rd s)
   plain_whole = answers_whole (λ a. Unit {0})
 
 -- a message about key generation
@@ -43,7 +43,7 @@ IsKeyGen (signed_vote v) = ⊥
 
 -- the readers that those of the calls are made of
 module _ (s : List ℕ) where
-  plain_strategy : (at : ℕ) → Plain (read_strategy fixed s at)
+  pub plain_strategy : (at : ℕ) → Plain (read_strategy fixed s at)
   unfolding read_strategy
   plain_strategy at =
       plain_bind (read_num 4 s at) _ (plain_num 4 s at) λ tag c.
@@ -51,7 +51,7 @@ module _ (s : List ℕ) where
       (plain_choice (eqb tag 1) _ _ tt
       (inl refl))
 
-  plain_params : (at : ℕ) → Plain (read_params fixed s at)
+  pub plain_params : (at : ℕ) → Plain (read_params fixed s at)
   unfolding read_params
   plain_params at =
       plain_bind (read_num 8 s at) _ (plain_num 8 s at) λ epochs c.
@@ -60,7 +60,7 @@ module _ (s : List ℕ) where
       tt
 
   module _ (z : Sizes) where
-    plain_state : (at : ℕ) → Plain (read_state fixed z s at)
+    pub plain_state : (at : ℕ) → Plain (read_state fixed z s at)
     unfolding read_state
     plain_state at =
         plain_bind (read_num 4 s at) _ (plain_num 4 s at) λ tag c.
@@ -69,7 +69,7 @@ module _ (s : List ℕ) where
         (plain_choice (eqb tag 2) _ _ (plain_bind (read_change fixed z s c) _ (plain_change s z c) λ ch d. tt)
         (inl refl)))
 
-    plain_plan : (at : ℕ) → Plain (read_plan fixed z s at)
+    pub plain_plan : (at : ℕ) → Plain (read_plan fixed z s at)
     unfolding read_plan
     plain_plan at =
         plain_bind (read_num 8 s at) _ (plain_num 8 s at) λ era a.
@@ -87,7 +87,7 @@ module _ (s : List ℕ) where
         answers_bind (λ n. Unit {0}) IsKeyGen (read_num 8 s d) _ (plain_num 8 s d) λ sig f u.
         tt
 
-    plain_message : (at : ℕ) → Plain (read_message z s at)
+    pub plain_message : (at : ℕ) → Plain (read_message z s at)
     unfolding read_message message.read_vote
     plain_message at =
         plain_bind (read_num 4 s at) _ (plain_num 4 s at) λ tag c.

@@ -1,3 +1,4 @@
 pub mod Table
 pub mod Causes
 pub mod NeverSix
+pub mod RowsOnly

@@ -1,221 +1,119 @@
 // The fields of a line: words, numbers and bytes, with one space between two of them.
-ghost use Rattle.std.specs.Prelude.{◌+◌, ◌*◌, ◌≤◌, length};
+ghost use Rattle.std.specs.Prelude.{◌*◌, ◌≤◌, length};
 
-// The greatest number of a field: of most, of an id, and of a lent length.
-pub const MOST: u64 = 18446744073709551615;
+use crate::text::Failure;
+use memchr::memchr;
+use std::alloc::Global;
 
-pub const MOST_ID: u64 = 4294967295;
-
+// The greatest length that a line can name for what is lent.
 pub const MOST_PLACES: u64 = 2000;
 
-// The bytes of a line's fields that hold hexadecimal digits: half as many as a line has.
-pub const BYTES: usize = 70000;
-
-// Whether one of the 64 bytes at a place is the one looked for. The loop has no exit, so that many bytes are compared at once.
-fn has_in_block(s: &[u8], at: usize, b: u8) -> bool
-    requires { at + 64 ≤ length s.now }
-{
-    let mut found = false;
-    let mut i: usize = 0;
-    while i < 64 {
-        found = found | (s[at + i] == b);
-        i += 1;
-    }
-    found
-}
-
-// The start of the first block, from a place on, that has the byte looked for, or of what is left behind the last.
-fn skip_blocks(s: &[u8], from: usize, b: u8) -> usize
-    requires { from ≤ length s.now }
-    ensures { (from ≤ result) × (result ≤ length s.now) }
-{
-    let mut i = from;
-    while 64 <= s.len() - i {
-        if has_in_block(s, i, b) {
-            return i;
-        }
-        i += 64;
-    }
-    i
-}
-
-// The place of the first such byte at or after `from`, or the length.
-pub(crate) fn find(s: &[u8], from: usize, b: u8) -> usize
-    requires { from ≤ length s.now }
-    ensures { (from ≤ result) × (result ≤ length s.now) }
-{
-    let mut i = skip_blocks(s, from, b);
-    while i < s.len() {
-        if s[i] == b {
-            return i;
-        }
-        i += 1;
-    }
-    i
-}
-
-// Where the fields of a line start and end, and how many there are. No call has more than seven, so an eighth ends the search.
+// What is left of a line behind the fields that were taken; nothing behind the last of them.
 #[derive(Clone, Copy)]
-pub struct Fields {
-    pub count: usize,
-    pub starts: [usize; 8],
-    pub ends: [usize; 8],
+pub struct Fields<'a> {
+    rest: Option<&'a [u8]>,
 }
 
-pub(crate) fn split(s: &[u8]) -> Fields {
-    let mut starts = [0usize; 8];
-    let mut ends = [0usize; 8];
-    let mut at: usize = 0;
-    let mut n: usize = 0;
-    while n < 8 {
-        let e = find(s, at, b' ');
-        starts[n] = at;
-        ends[n] = e;
-        n += 1;
-        if e == s.len() {
-            return Fields {
-                count: n,
-                starts,
-                ends,
-            };
-        }
-        at = e + 1;
+impl<'a> Fields<'a> {
+    pub(crate) fn new(line: &'a [u8]) -> Fields<'a> {
+        Fields { rest: Some(line) }
     }
-    Fields {
-        count: n,
-        starts,
-        ends,
-    }
-}
 
-// A part of a slice; empty where there is none.
-pub(crate) fn part(s: &[u8], from: usize, to: usize) -> &[u8] {
-    if from <= to {
-        if to <= s.len() {
-            return &s[from..to];
-        }
+    // The next field.
+    fn field(&mut self) -> Result<&'a [u8], Failure> {
+        let Some(rest) = self.rest else {
+            return Err(Failure::BadLine);
+        };
+        let Some(n) = memchr(b' ', rest) else {
+            self.rest = None;
+            return Ok(rest);
+        };
+        let (field, more) = rest.split_at(n);
+        self.rest = more.get(1..);
+        Ok(field)
     }
-    &s[0..0]
-}
 
-// The field with a number, counted from 0.
-pub(crate) fn field(s: &[u8], f: Fields, k: usize) -> &[u8] {
-    if k < 8 {
-        return part(s, f.starts[k], f.ends[k]);
+    pub(crate) fn word(&mut self) -> Result<&'a str, Failure> {
+        str::from_utf8(self.field()?).map_err(|_| Failure::BadLine)
     }
-    &s[0..0]
-}
 
-pub(crate) fn equal(a: &[u8], b: &[u8]) -> bool {
-    if a.len() != b.len() {
-        return false;
-    }
-    let mut i: usize = 0;
-    while i < a.len() {
-        if i < b.len() {
-            if a[i] != b[i] {
-                return false;
-            }
+    // Decimal digits, one to twenty, of a number that fits.
+    pub(crate) fn number(&mut self) -> Result<u64, Failure> {
+        let digits = self.word()?;
+        if 20 < digits.len() || digits.starts_with('+') {
+            return Err(Failure::BadLine);
         }
-        i += 1;
+        digits.parse::<u64>().map_err(|_| Failure::BadLine)
     }
-    true
-}
 
-#[derive(Clone, Copy)]
-pub enum Parsed {
-    Value(u64),
-    Bad,
-}
+    pub(crate) fn id(&mut self) -> Result<u32, Failure> {
+        u32::try_from(self.number()?).map_err(|_| Failure::BadLine)
+    }
 
-// Decimal digits, one to twenty, of a number up to a greatest one.
-pub(crate) fn number(s: &[u8], most: u64) -> Parsed {
-    if s.len() == 0 {
-        return Parsed::Bad;
-    }
-    if 20 < s.len() {
-        return Parsed::Bad;
-    }
-    let mut x: u64 = 0;
-    let mut i: usize = 0;
-    while i < s.len() {
-        let b = s[i];
-        if b < b'0' {
-            return Parsed::Bad;
+    // A length that is lent.
+    pub(crate) fn places(&mut self) -> Result<usize, Failure> {
+        match self.number()? {
+            n @ 0..=MOST_PLACES => Ok(n as usize),
+            _ => Err(Failure::BadLine),
         }
-        if b'9' < b {
-            return Parsed::Bad;
-        }
-        let d = (b - b'0') as u64;
-        if 1844674407370955161 < x {
-            return Parsed::Bad;
-        }
-        let ten = x * 10;
-        if 18446744073709551615 - ten < d {
-            return Parsed::Bad;
-        }
-        x = ten + d;
-        i += 1;
     }
-    if most < x {
-        return Parsed::Bad;
+
+    pub(crate) fn flag(&mut self) -> Result<bool, Failure> {
+        match self.number()? {
+            0 => Ok(false),
+            1 => Ok(true),
+            _ => Err(Failure::BadLine),
+        }
     }
-    Parsed::Value(x)
+
+    pub(crate) fn bytes(&mut self, alloc: Global) -> Result<Vec<u8>, Failure> {
+        unhex(alloc, self.field()?)
+    }
+
+    // Nothing may be left.
+    pub(crate) fn end(self) -> Result<(), Failure> {
+        match self.rest {
+            Some(_) => Err(Failure::BadLine),
+            None => Ok(()),
+        }
+    }
 }
 
 // What a hexadecimal digit stands for, and 16 where a byte is none.
 fn digit_of(b: u8) -> u8 {
-    if b < b'0' {
-        return 16;
+    match b {
+        b'0'..=b'9' => b - b'0',
+        b'a'..=b'f' => b - b'a' + 10,
+        _ => 16,
     }
-    if b <= b'9' {
-        return b - b'0';
-    }
-    if b < b'a' {
-        return 16;
-    }
-    if b <= b'f' {
-        return b - b'a' + 10;
-    }
-    16
 }
 
-// Puts the bytes of n pairs of digits at a place; the answer is below 16 where all were digits. This loop has no exit either.
-fn put_bytes(s: &[u8], n: usize, out: &mut [u8], at: usize) -> u8
-    requires { (2 * n ≤ length s.now) × (at + n ≤ length out.old) }
+// Puts the bytes of pairs of digits into a buffer; the answer is below 16 where all were digits. The loop has no exit and goes by place, so that many digits are read at once:
+// pair by pair takes ten times as long.
+fn read_digits(digits: &[u8], bytes: &mut [u8]) -> u8
+    requires { 2 * length bytes.old ≤ length digits.now }
 {
-    let mut seen: u8 = 0;
-    let mut i: usize = 0;
-    while i < n {
-        let h = digit_of(s[2 * i]);
-        let l = digit_of(s[2 * i + 1]);
-        seen = seen | h | l;
-        out[at + i] = h % 16 * 16 + l % 16;
-        i += 1;
+    let mut seen = 0u8;
+    for i in 0..bytes.len() {
+        let high = digit_of(digits[2 * i]);
+        let low = digit_of(digits[2 * i + 1]);
+        seen = seen | high | low;
+        bytes[i] = high % 16 * 16 + low % 16;
     }
     seen
 }
 
-// The bytes that hexadecimal digits stand for, put into a buffer at a place, and where they end; `-` is no bytes.
-pub(crate) fn bytes(s: &[u8], out: &mut [u8], at: usize) -> Parsed {
-    if equal(s, b"-") {
-        return Parsed::Value(at as u64);
+// The bytes that lowercase hexadecimal digits stand for; `-` is no bytes.
+fn unhex(alloc: Global, digits: &[u8]) -> Result<Vec<u8>, Failure> {
+    if digits == b"-".as_slice() {
+        return Ok(Vec::new(alloc));
     }
-    if s.len() == 0 {
-        return Parsed::Bad;
+    if digits.is_empty() || digits.len() % 2 == 1 {
+        return Err(Failure::BadLine);
     }
-    if s.len() % 2 == 1 {
-        return Parsed::Bad;
+    let mut bytes = vec![in alloc; 0u8; digits.len() / 2]?;
+    if 15 < read_digits(digits, &mut bytes) {
+        return Err(Failure::BadLine);
     }
-    let n = s.len() / 2;
-    if out.len() < n {
-        return Parsed::Bad;
-    }
-    if out.len() - n < at {
-        return Parsed::Bad;
-    }
-    if 15 < put_bytes(s, n, out, at) {
-        return Parsed::Bad;
-    }
-    Parsed::Value((at + n) as u64)
+    Ok(bytes)
 }

@@ -1,180 +1,114 @@
-// A batch call as a host makes it: the engine fills lists that it is lent, of the lengths that the line names, and faults and due items are read off them.
-use crate::answers::{put_fault, put_keys, put_recipe, put_state};
-use crate::fields::{BYTES, part};
-use crate::kept::{PLACES, clear_due, clear_faults, due_kept, faults_kept, put_kept};
-use crate::parse::Agreed;
-use crate::text::{OUT, put, put_between, put_named, say, smaller};
-use batch::Batch;
-use dynamic_honey_badger::DynamicHoneyBadger;
-use process_batch::{BatchOutcome, Processed};
-use recipe::Recipe;
+// The lists that a call is lent: every place holds a pattern, so a place that is written for nothing shows in the answer. The lists last from call to call; the
+// places that a call filled get the pattern back.
+use std::alloc::{AllocError, Global};
 
-// The first n faults of the lists; `-` for none.
-fn put_faults(out: &mut [u8], at: usize, ids: &[u32], kinds: &[u8], n: usize) -> usize {
-    let end = smaller(n, smaller(ids.len(), kinds.len()));
-    if end == 0 {
-        return put(out, at, b" faults -");
-    }
-    let mut m = put(out, at, b" faults ");
-    let mut i: usize = 0;
-    while i < end {
-        m = put_between(out, m, 0 < i, b",");
-        m = put_fault(out, m, ids[i], kinds[i]);
-        i += 1;
-    }
-    m
+// The places of each list: as many as a line can name, and some behind that no call is lent.
+pub const PLACES: usize = 2016;
+
+pub const GUARDS: usize = 16;
+
+// How many places behind those filled are looked at after each call; the whole lists are looked at once, at the end.
+pub const NEAR: usize = 64;
+
+// What stands at a place before the call; there is no such kind.
+pub const ID: u32 = 2779096485;
+
+pub const KIND: u8 = 165;
+
+pub const NUMBER: u64 = 11936128518282651045;
+
+// Faults by ids and kinds, due items by kinds, indices and eras.
+#[derive(Drop)]
+pub struct Lists {
+    pub ids: Vec<u32>,
+    pub kinds: Vec<u8>,
+    pub due_kinds: Vec<u8>,
+    pub indices: Vec<u64>,
+    pub eras: Vec<u64>,
 }
 
-// A due item as `part@ERA` or `ack:INDEX@ERA`.
-fn put_item(out: &mut [u8], at: usize, kind: u8, index: u64, era: u64) -> usize {
-    match kind {
-        0 => put_named(out, at, b"part@", era),
-        1 => {
-            let a = put_named(out, at, b"ack:", index);
-            put_named(out, a, b"@", era)
-        }
-        _ => put_named(out, at, b"kind:", kind as u64),
-    }
+// The first n places of a list, as many as there are.
+pub(crate) fn lend<T>(list: &mut [T], n: usize) -> &mut [T] {
+    let places = n.min(list.len());
+    &mut list[..places]
 }
 
-// The first n due items of the lists; `-` for none.
-pub(crate) fn put_due(
-    out: &mut [u8],
-    at: usize,
-    kinds: &[u8],
-    indices: &[u64],
-    eras: &[u64],
-    n: usize,
-) -> usize {
-    let end = smaller(n, smaller(kinds.len(), smaller(indices.len(), eras.len())));
-    if end == 0 {
-        return put(out, at, b" due -");
-    }
-    let mut m = put(out, at, b" due ");
-    let mut i: usize = 0;
-    while i < end {
-        m = put_between(out, m, 0 < i, b",");
-        m = put_item(out, m, kinds[i], indices[i], eras[i]);
-        i += 1;
-    }
-    m
-}
-
-// A report: its epoch, era, change, map and params.
-fn put_report(out: &mut [u8], report: Batch) -> usize {
-    let change = report.change;
-    let map = report.pub_keys;
-    let params = report.params;
-    let a = put_named(out, 0, b"batch ", report.epoch);
-    let b = put_named(out, a, b" ", report.era);
-    let c = put_state(out, b, b" ", change);
-    put_keys(out, c, map, params)
-}
-
-// The recipe, where there is one.
-fn put_made(out: &mut [u8], at: usize, made: bool, recipe: Recipe) -> usize {
-    let a = put(out, at, b" recipe ");
-    if made {
-        return put_recipe(out, a, recipe);
-    }
-    put(out, a, b"-")
-}
-
-// What a batch that is not refused answers: the report, and beside it faults, due items and the recipe.
-fn put_batch(
-    out: &mut [u8],
-    report: Batch,
-    made: bool,
-    recipe: Recipe,
-    faults: usize,
-    due: usize,
-    ids: &[u32],
-    kinds: &[u8],
-    due_kinds: &[u8],
-    indices: &[u64],
-    eras: &[u64],
-) -> usize {
-    let a = put_report(out, report);
-    let b = put_faults(out, a, ids, kinds, faults);
-    let c = put_due(out, b, due_kinds, indices, eras, due);
-    put_made(out, c, made, recipe)
-}
-
-fn put_outcome(
-    out: &mut [u8],
-    outcome: BatchOutcome,
-    report: Batch,
-    made: bool,
-    recipe: Recipe,
-    faults: usize,
-    due: usize,
-    ids: &[u32],
-    kinds: &[u8],
-    due_kinds: &[u8],
-    indices: &[u64],
-    eras: &[u64],
-) -> usize {
-    match outcome {
-        BatchOutcome::Reported => put_batch(
-            out, report, made, recipe, faults, due, ids, kinds, due_kinds, indices, eras,
-        ),
-        BatchOutcome::Refused(k) => put_named(out, 0, b"refused ", k as u64),
+// Whether the places of a list from one on to another hold the pattern. The loop has no exit, so that many places are compared at once.
+fn kept<T: Copy + PartialEq>(list: &[T], from: usize, to: usize, pattern: T) -> bool {
+    match list.get(from..to.min(list.len())) {
+        Some(places) => places.iter().fold(true, |kept, x| kept & (*x == pattern)),
+        None => true,
     }
 }
 
-// Says what a batch answers, looks at the places behind those filled, and clears the lists for the next call.
-pub(crate) fn answer(
-    out: &mut [u8; OUT],
-    outcome: BatchOutcome,
-    report: Batch,
-    made: bool,
-    recipe: Recipe,
-    n: usize,
-    k: usize,
-    b: Agreed,
-    ids: &mut [u32; PLACES],
-    kinds: &mut [u8; PLACES],
-    due_kinds: &mut [u8; PLACES],
-    indices: &mut [u64; PLACES],
-    eras: &mut [u64; PLACES],
-) -> usize {
-    let a = put_outcome(
-        out, outcome, report, made, recipe, n, k, ids, kinds, due_kinds, indices, eras,
-    );
-    let kept = faults_kept(ids, kinds, n, b.faults);
-    let e = put_kept(out, a, kept, due_kept(due_kinds, indices, eras, k, b.due));
-    clear_faults(ids, kinds, n);
-    clear_due(due_kinds, indices, eras, k);
-    say(out, e)
+// The end of what is looked at behind the places that a line names.
+fn guarded(named: usize) -> usize {
+    named.saturating_add(GUARDS).min(PLACES)
 }
 
-// The call with the first places of the lists, as many as the line names.
-pub(crate) fn call(
-    replica: DynamicHoneyBadger,
-    b: Agreed,
-    bytes: &[u8; BYTES],
-    ids: &mut [u32],
-    kinds: &mut [u8],
-    due_kinds: &mut [u8],
-    indices: &mut [u64],
-    eras: &mut [u64],
-) -> Processed {
-    let f = smaller(b.faults, ids.len());
-    let g = smaller(b.faults, kinds.len());
-    let d = smaller(b.due, due_kinds.len());
-    let e = smaller(b.due, indices.len());
-    let h = smaller(b.due, eras.len());
-    let batch = part(bytes, 0, b.batch);
-    process_batch::process_batch(
-        replica,
-        b.era,
-        b.inner,
-        batch,
-        part(bytes, b.batch, b.verdicts),
-        &mut ids[..f],
-        &mut kinds[..g],
-        &mut due_kinds[..d],
-        &mut indices[..e],
-        &mut eras[..h],
-    )
+// The end of what is looked at behind the first n places of a list.
+fn near(n: usize, end: usize) -> usize {
+    n.saturating_add(NEAR).min(end)
+}
+
+impl Lists {
+    pub(crate) fn new(alloc: Global) -> Result<Lists, AllocError> {
+        Ok(Lists {
+            ids: vec![in alloc; ID; PLACES]?,
+            kinds: vec![in alloc; KIND; PLACES]?,
+            due_kinds: vec![in alloc; KIND; PLACES]?,
+            indices: vec![in alloc; NUMBER; PLACES]?,
+            eras: vec![in alloc; NUMBER; PLACES]?,
+        })
+    }
+
+    // Whether places of faults hold the pattern: those next behind the first n, and some behind those that a line names.
+    pub(crate) fn faults_kept(&self, n: usize, named: usize) -> bool {
+        let end = guarded(named);
+        let to = near(n, end);
+        kept(&self.ids, n, to, ID)
+            && kept(&self.kinds, n, to, KIND)
+            && kept(&self.ids, named, end, ID)
+            && kept(&self.kinds, named, end, KIND)
+    }
+
+    // The same of due items.
+    pub(crate) fn due_kept(&self, n: usize, named: usize) -> bool {
+        let end = guarded(named);
+        let to = near(n, end);
+        kept(&self.due_kinds, n, to, KIND)
+            && kept(&self.indices, n, to, NUMBER)
+            && kept(&self.eras, n, to, NUMBER)
+            && kept(&self.due_kinds, named, end, KIND)
+            && kept(&self.indices, named, end, NUMBER)
+            && kept(&self.eras, named, end, NUMBER)
+    }
+
+    // Whether every place of all lists holds the pattern, as it must between two calls.
+    pub(crate) fn all_kept(&self) -> bool {
+        kept(&self.ids, 0, PLACES, ID)
+            && kept(&self.kinds, 0, PLACES, KIND)
+            && kept(&self.due_kinds, 0, PLACES, KIND)
+            && kept(&self.indices, 0, PLACES, NUMBER)
+            && kept(&self.eras, 0, PLACES, NUMBER)
+    }
+
+    // Puts the pattern back at the first places of faults and of due items.
+    pub(crate) fn clear(&mut self, faults: usize, due: usize) {
+        lend(&mut self.ids, faults).fill(ID);
+        lend(&mut self.kinds, faults).fill(KIND);
+        lend(&mut self.due_kinds, due).fill(KIND);
+        lend(&mut self.indices, due).fill(NUMBER);
+        lend(&mut self.eras, due).fill(NUMBER);
+    }
+}
+
+// Ends an answer; it says before what no log expects, where a place changed that had to keep what it held.
+pub(crate) fn end_line(out: &mut String, faults: bool, due: bool) -> Result<(), AllocError> {
+    if !faults {
+        out.push_str(" faults changed")?;
+    } else if !due {
+        out.push_str(" due changed")?;
+    }
+    out.push_str("\n")
 }

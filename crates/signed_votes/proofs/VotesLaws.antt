@@ -5,13 +5,17 @@ use mathlib.Core.Path.{◌≡◌, refl, sym, ap, ◌∙◌}
 use mathlib.Core.List.{List, [], ◌∷◌, ◌++◌, map}
 use mathlib.Core.Bool.{Bool, true, false, cond}
 use native.Mathlib.Omega.{arith}
-use lib.ListN.{length, take, drop, set, length-take}
-use lib.Seq.{take-set-lt}
+use native.Mathlib.Numerals.{add-one}
+use lib.ListN.{length, take, drop, set, get_or, length-take, length-map}
+use lib.Seq.{take-set-lt, drop-cons}
 use lib.Dec.{ltb, eqb}
 use borrow.Author.Tests.{lt-ltb, le-ltb, ltb-true, ltb-false, eqb-true, eqb-false}
+use Rattle.std.specs.declared.result.Result.{Result}
+use Rattle.std.specs.declared.result.Result.TheVariants.{Ok, Err}
 use Rattle.bincode.specs.Stands.{Each}
+use Rattle.bincode.proofs.ReadLaws.{cross, crossed}
 use Rattle.lists.specs.Lists.{Found, map_found, lookup, below, insert, has_key, insert_within}
-use Rattle.lists.proofs.ListLaws.{rest_none}
+use Rattle.lists.proofs.ListLaws.{rest_none, take_live}
 use Rattle.lists.proofs.SortedLaws.{NewAt, key_of, map_lookup, map_insert_within, within_same}
 use Rattle.votes.specs.declared.SignedVote.{SignedVote}
 use Rattle.votes.specs.Votes.{signed_of}
@@ -21,6 +25,39 @@ use Rattle.signed_votes.specs.SignedVotes.{held, votes_of, voter_in, voter_of, n
 -- the number that a look-up among the structs finds
 pub held_num : (t : SignedVotes) (k : ℕ) (x : Found SignedVote) → lookup voter_in (held t) k ≡ x → map_found num_of (lookup voter_of (votes_of t) k) ≡ map_found num_of (map_found signed_of x)
 held_num t k x e = ap (map_found num_of) (sym (map_lookup signed_of voter_of (held t) k) ∙ ap (map_found signed_of) e)
+
+-- the next of some elements
+module _ {A : Type 0} (xs : List A) (i : ℕ) (z : A) where
+  pub next_one : i < length xs → drop i xs ≡ get_or xs i z ∷ drop (i + 1) xs
+  next_one h = rw (add-one, drop-cons xs i z h)
+
+-- neither the key nor above it
+pub under : {a b : ℕ} → (a ≡ b → ⊥) → a ≤ b → a < b
+under e l = omega (arith, e, l)
+
+-- as many votes as there are, from the array's first place on, are those that count
+module _ (t : SignedVotes) (n : ℕ) (e : n ≡ length (votes_of t)) where
+  pub counted : n ≡ length (held t)
+  counted = e ∙ length-map (held t) signed_of
+
+  pub live : take n t.votes ≡ held t
+  live = ap (λ (k : ℕ). take k t.votes) counted ∙ take_live t.count t.votes
+
+-- what an answered place says: a vote stands there, or belongs there
+module _ (b : Bool) (n p : ℕ) where
+  pub place_taken : ◌≡◌ {A = Result ℕ ℕ} (Ok p) (cond b (Ok n) (Err n)) → (b ≡ true) × (p ≡ n)
+  place_taken q = go b q
+    where
+      go : (b : Bool) → ◌≡◌ {A = Result ℕ ℕ} (Ok p) (cond b (Ok n) (Err n)) → (b ≡ true) × (p ≡ n)
+      go true q = (refl, cc)
+      go false q = absurd (cross q)
+
+  pub place_free : ◌≡◌ {A = Result ℕ ℕ} (Err p) (cond b (Ok n) (Err n)) → (b ≡ false) × (p ≡ n)
+  place_free q = go b q
+    where
+      go : (b : Bool) → ◌≡◌ {A = Result ℕ ℕ} (Err p) (cond b (Ok n) (Err n)) → (b ≡ false) × (p ≡ n)
+      go true q = absurd (crossed q)
+      go false q = (refl, cc)
 
 -- whether a key stands in a list, and what an insertion then comes to
 module _ {A : Type 0} (key : A → ℕ) where

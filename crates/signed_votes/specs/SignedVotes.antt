@@ -1,12 +1,9 @@
 -- Signed votes by ascending voter.
 use Rattle.std.specs.Prelude.{ℕ, List, map, take, replicate}
-use Rattle.lists.specs.Lists.{Found, found, nothing}
 use Rattle.bincode.specs.Sizes.{base}
 use Rattle.votes.specs.declared.SignedVote.{SignedVote}
 use Rattle.votes.specs.Votes.{SignedVoteOf, signed_of, signed_held, no_signed}
 use Rattle.signed_votes.specs.declared.SignedVotes.{SignedVotes}
-use Rattle.signed_votes.specs.declared.VoteNum.{VoteNum}
-use Rattle.signed_votes.specs.declared.VoteNum.TheVariants as num
 
 -- the structs that count: those below the count, as far as the array reaches
 abbrev pub held : SignedVotes → List SignedVote
@@ -29,7 +26,3 @@ voter_of x = x.voter
 
 abbrev pub num_of : SignedVoteOf → ℕ
 num_of x = x.vote.num
-
-abbrev pub said_num : VoteNum → Found ℕ
-said_num (num.Num n) = found n
-said_num num.Nothing = nothing

@@ -1,11 +1,11 @@
 // votes.rs: signed votes by ascending voter, as the Rust's `BTreeMap` keeps them: a sorted array with a count.
 #![tactic(auto)]
 
-ghost use Rattle.std.specs.Prelude.{◌≡◌, ◌≤◌, length};
-ghost use Rattle.lists.specs.Lists.{lookup, below, has_key, insert_within, takes_place, map_found};
+ghost use Rattle.std.specs.Prelude.{◌≡◌, ℕ, ◌≤◌, cond, length, Ok, Err};
+ghost use Rattle.lists.specs.Lists.{lookup, below, has_key, insert_within, takes_place, map_found, option_as_found};
 ghost use Rattle.bincode.specs.Sizes.{base};
 ghost use Rattle.votes.specs.Votes.{signed_of};
-ghost use Rattle.signed_votes.specs.SignedVotes.{held, votes_of, no_votes, voter_of, num_of, voter_in, said_num};
+ghost use Rattle.signed_votes.specs.SignedVotes.{held, votes_of, no_votes, voter_of, num_of, voter_in};
 
 use votes::SignedVote;
 
@@ -14,20 +14,6 @@ use votes::SignedVote;
 pub struct SignedVotes {
     pub count: usize,
     pub votes: [SignedVote; SignedVotes::LIMIT],
-}
-
-// Where a voter's vote belongs, and whether it has one there.
-#[derive(Clone, Copy)]
-struct Place {
-    at: usize,
-    taken: bool,
-}
-
-// A vote's number, or that the voter has none.
-#[derive(Clone, Copy)]
-pub enum VoteNum {
-    Num(u64),
-    Nothing,
 }
 
 impl SignedVotes {
@@ -46,62 +32,46 @@ impl SignedVotes {
     pub fn len(self) -> usize
         ensures { (result ≡ length (votes_of self)) × (result ≤ base.nodes) }
     {
-        let n = self.count;
-        if n < SignedVotes::LIMIT {
-            n
-        } else {
-            SignedVotes::LIMIT
-        }
+        self.count.min(SignedVotes::LIMIT)
     }
 
-    // The number of a voter's vote.
-    pub fn num_of(self, voter: u32) -> VoteNum
-        ensures { said_num result ≡ map_found num_of (lookup voter_of (votes_of self) voter) }
+    // The number of a voter's vote, if it has one.
+    pub fn num_of(self, voter: u32) -> Option<u64>
+        ensures { option_as_found (λ (x : ℕ). x) result ≡ map_found num_of (lookup voter_of (votes_of self) voter) }
+    {
+        for x in &self.votes[..self.len()] {
+            if x.voter == voter {
+                return Some(x.vote.num);
+            }
+        }
+        None
+    }
+
+    // The place of a voter's vote, or else the one where it belongs: behind those of lower voters.
+    fn place(self, voter: u32) -> Result<usize, usize>
+        ensures { result ≡ cond (has_key voter_in voter (held self)) (Ok (below voter_in voter (held self))) (Err (below voter_in voter (held self))) }
     {
         let n = self.len();
-        let mut i: usize = 0;
-        while i < n {
+        for i in 0..n {
             let x = self.votes[i];
             if x.voter == voter {
-                let vote = x.vote;
-                return VoteNum::Num(vote.num);
+                return Ok(i);
             }
-            i += 1;
-        }
-        VoteNum::Nothing
-    }
-
-    // How many votes stand before the first whose voter is not below this one, and whether that one is this voter's.
-    fn place(self, voter: u32) -> Place
-        ensures { (result.at ≡ below voter_in voter (held self)) × (result.at ≤ length (held self)) × (result.taken ≡ has_key voter_in voter (held self)) }
-    {
-        let n = self.len();
-        let mut i: usize = 0;
-        while i < n {
-            let x = self.votes[i];
-            if voter <= x.voter {
-                return Place {
-                    at: i,
-                    taken: x.voter == voter,
-                };
+            if voter < x.voter {
+                return Err(i);
             }
-            i += 1;
         }
-        Place {
-            at: i,
-            taken: false,
-        }
+        Err(n)
     }
 
     // Whether a voter's vote gets a place: the voter has one, or there is room.
     pub fn takes(self, voter: u32) -> bool
         ensures { result ≡ takes_place voter_of base.nodes voter (votes_of self) }
     {
-        let p = self.place(voter);
-        if p.taken {
-            return true;
+        match self.place(voter) {
+            Ok(_) => true,
+            Err(_) => self.len() < SignedVotes::LIMIT,
         }
-        self.len() < SignedVotes::LIMIT
     }
 
     // The votes with one put in: in place of its voter's, or where its voter belongs. A full array has no place for another voter.
@@ -110,21 +80,17 @@ impl SignedVotes {
         ensures { votes_of result ≡ insert_within voter_of base.nodes (signed_of x) (votes_of self) }
     {
         let n = self.len();
-        let p = self.place(x.voter);
-        let at = p.at;
-        if p.taken {
-            self.votes[at] = x;
-        } else {
-            if n < SignedVotes::LIMIT {
-                let mut j = n;
-                while at < j {
-                    let k = j - 1;
-                    let y = self.votes[k];
-                    self.votes[j] = y;
-                    j = k;
+        match self.place(x.voter) {
+            Ok(at) => self.votes[at] = x,
+            Err(at) => {
+                if n < SignedVotes::LIMIT {
+                    for j in (at..n).rev() {
+                        let y = self.votes[j];
+                        self.votes[j + 1] = y;
+                    }
+                    self.votes[at] = x;
+                    self.count = n + 1;
                 }
-                self.votes[at] = x;
-                self.count = n + 1;
             }
         }
         self

@@ -3,53 +3,31 @@ use change::Change;
 use key_gen_message::{KeyGenMessage, SignedKeyGenMsg};
 use message::Message;
 use pub_key_map::{Node, PubKeyMap};
+use std::alloc::{AllocError, Global};
 use sync_key_gen::{Ack, Handles, Part};
 use votes::{SignedVote, Vote};
 
 // How many parts are acknowledged: those with the least indices.
 const ACKED: u64 = 4;
 
-// A batch or a message: the first `len` bytes.
-#[derive(Clone, Copy)]
-pub struct Written {
-    pub bytes: [u8; Written::LIMIT],
-    pub len: usize,
-}
-
-impl Written {
-    pub const LIMIT: usize = 4096;
-
-    // The same without its last byte.
-    pub(crate) fn damaged(self) -> Self {
-        let n = self.len;
-        if n == 0 {
-            return self;
-        }
-        let bytes = self.bytes;
-        Written { bytes, len: n - 1 }
-    }
-}
+// The room for a batch or a message.
+const ROOM: usize = 4096;
 
 // The first n bytes, all where there are fewer.
 pub(crate) fn first(s: &[u8], n: usize) -> &[u8] {
-    if n <= s.len() {
-        return &s[0..n];
-    }
-    s
+    s.get(..n).unwrap_or(s)
 }
 
 // A node of the season: node i has key 100 + i.
 pub(crate) fn node(id: u32) -> Node {
-    Node::new(id, 100 + id as u64)
+    Node::new(id, 100 + u64::from(id))
 }
 
 // The map of nodes 1 to n.
 pub(crate) fn roster(n: u32) -> PubKeyMap {
     let mut map = PubKeyMap::empty();
-    let mut i: u32 = 0;
-    while i < n {
-        i += 1;
-        map = node_change::with_node(map, node(i));
+    for i in 0..n {
+        map = node_change::with_node(map, node(i + 1));
     }
     map
 }
@@ -61,7 +39,7 @@ fn handles(map: PubKeyMap) -> Handles {
 
 fn part(map: PubKeyMap, id: u32) -> KeyGenMessage {
     KeyGenMessage::part(Part {
-        commit: 70 + id as u64,
+        commit: 70 + u64::from(id),
         rows: handles(map),
     })
 }
@@ -116,13 +94,9 @@ fn write_vote(buf: &mut [u8], at: usize, era: u64, id: u32, change: Change) -> u
 
 // A part of each node of a map.
 fn write_parts(buf: &mut [u8], at: usize, era: u64, map: PubKeyMap) -> usize {
-    let n = map.len();
     let mut c = at;
-    let mut i: usize = 0;
-    while i < n {
-        let signer = map.nodes[i];
-        c = write(buf, c, era, signer, part(map, signer.id));
-        i += 1;
+    for signer in &map.nodes[..map.len()] {
+        c = write(buf, c, era, *signer, part(map, signer.id));
     }
     c
 }
@@ -130,109 +104,141 @@ fn write_parts(buf: &mut [u8], at: usize, era: u64, map: PubKeyMap) -> usize {
 // The acks of one node.
 fn write_acks_of(buf: &mut [u8], at: usize, era: u64, map: PubKeyMap, signer: Node) -> usize {
     let mut c = at;
-    let mut proposer: u64 = 0;
-    while proposer < ACKED {
+    for proposer in 0..ACKED {
         c = write(buf, c, era, signer, ack(map, proposer));
-        proposer += 1;
     }
     c
 }
 
 // The acks of each node of a map.
 fn write_acks(buf: &mut [u8], at: usize, era: u64, map: PubKeyMap) -> usize {
-    let n = map.len();
     let mut c = at;
-    let mut i: usize = 0;
-    while i < n {
-        let signer = map.nodes[i];
-        c = write_acks_of(buf, c, era, map, signer);
-        i += 1;
+    for signer in &map.nodes[..map.len()] {
+        c = write_acks_of(buf, c, era, map, *signer);
     }
     c
 }
 
 // A batch without a contribution takes 8 bytes; what is longer has bytes left over.
-pub(crate) fn nothing(len: usize) -> Written {
-    let bytes = [0u8; Written::LIMIT];
-    Written { bytes, len }
+pub(crate) fn nothing(alloc: Global, len: usize) -> Result<Vec<u8>, AllocError> {
+    vec![in alloc; 0u8; len]
+}
+
+// The first n bytes of what was written.
+fn written(alloc: Global, buf: &[u8], n: usize) -> Result<Vec<u8>, AllocError> {
+    first(buf, n).to_vec(alloc)
 }
 
 // The votes of node 1 and another for a change.
-pub(crate) fn votes(era: u64, other: u32, change: Change) -> Written {
-    let mut bytes = [0u8; Written::LIMIT];
-    let a = open(&mut bytes, 41, 0);
-    let b = bincode::write_u64(&mut bytes, a, 2);
-    let c = write_vote(&mut bytes, b, era, 1, change);
-    let len = write_vote(&mut bytes, c, era, other, change);
-    Written { bytes, len }
+pub(crate) fn votes(
+    alloc: Global,
+    era: u64,
+    other: u32,
+    change: Change,
+) -> Result<Vec<u8>, AllocError> {
+    let mut buf = [0u8; ROOM];
+    let a = open(&mut buf, 41, 0);
+    let b = bincode::write_u64(&mut buf, a, 2);
+    let c = write_vote(&mut buf, b, era, 1, change);
+    let len = write_vote(&mut buf, c, era, other, change);
+    written(alloc, &buf, len)
 }
 
 // One vote for a change.
-pub(crate) fn one_vote(era: u64, id: u32, change: Change) -> Written {
-    let mut bytes = [0u8; Written::LIMIT];
-    let a = open(&mut bytes, 46, 0);
-    let b = bincode::write_u64(&mut bytes, a, 1);
-    let len = write_vote(&mut bytes, b, era, id, change);
-    Written { bytes, len }
+pub(crate) fn one_vote(
+    alloc: Global,
+    era: u64,
+    id: u32,
+    change: Change,
+) -> Result<Vec<u8>, AllocError> {
+    let mut buf = [0u8; ROOM];
+    let a = open(&mut buf, 46, 0);
+    let b = bincode::write_u64(&mut buf, a, 1);
+    let len = write_vote(&mut buf, b, era, id, change);
+    written(alloc, &buf, len)
 }
 
 // One part, of a node that need not be in the map.
-pub(crate) fn one_part(era: u64, map: PubKeyMap, id: u32) -> Written {
-    let mut bytes = [0u8; Written::LIMIT];
-    let a = open(&mut bytes, 42, 1);
-    let b = write(&mut bytes, a, era, node(id), part(map, id));
-    let len = bincode::write_u64(&mut bytes, b, 0);
-    Written { bytes, len }
+pub(crate) fn one_part(
+    alloc: Global,
+    era: u64,
+    map: PubKeyMap,
+    id: u32,
+) -> Result<Vec<u8>, AllocError> {
+    let mut buf = [0u8; ROOM];
+    let a = open(&mut buf, 42, 1);
+    let b = write(&mut buf, a, era, node(id), part(map, id));
+    let len = bincode::write_u64(&mut buf, b, 0);
+    written(alloc, &buf, len)
 }
 
 // The parts of a map's nodes.
-pub(crate) fn parts(era: u64, map: PubKeyMap) -> Written {
-    let mut bytes = [0u8; Written::LIMIT];
-    let a = open(&mut bytes, 43, map.len() as u64);
-    let b = write_parts(&mut bytes, a, era, map);
-    let len = bincode::write_u64(&mut bytes, b, 0);
-    Written { bytes, len }
+pub(crate) fn parts(alloc: Global, era: u64, map: PubKeyMap) -> Result<Vec<u8>, AllocError> {
+    let mut buf = [0u8; ROOM];
+    let a = open(&mut buf, 43, map.len() as u64);
+    let b = write_parts(&mut buf, a, era, map);
+    let len = bincode::write_u64(&mut buf, b, 0);
+    written(alloc, &buf, len)
 }
 
 // The acks of a map's nodes.
-pub(crate) fn acks(era: u64, map: PubKeyMap) -> Written {
-    let mut bytes = [0u8; Written::LIMIT];
-    let a = open(&mut bytes, 44, map.len() as u64 * ACKED);
-    let b = write_acks(&mut bytes, a, era, map);
-    let len = bincode::write_u64(&mut bytes, b, 0);
-    Written { bytes, len }
+pub(crate) fn acks(alloc: Global, era: u64, map: PubKeyMap) -> Result<Vec<u8>, AllocError> {
+    let mut buf = [0u8; ROOM];
+    let a = open(&mut buf, 44, map.len() as u64 * ACKED);
+    let b = write_acks(&mut buf, a, era, map);
+    let len = bincode::write_u64(&mut buf, b, 0);
+    written(alloc, &buf, len)
 }
 
 // Parts and acks of a map's nodes.
-pub(crate) fn parts_and_acks(era: u64, map: PubKeyMap) -> Written {
-    let mut bytes = [0u8; Written::LIMIT];
-    let a = open(&mut bytes, 45, map.len() as u64 * (ACKED + 1));
-    let b = write_parts(&mut bytes, a, era, map);
-    let c = write_acks(&mut bytes, b, era, map);
-    let len = bincode::write_u64(&mut bytes, c, 0);
-    Written { bytes, len }
+pub(crate) fn parts_and_acks(
+    alloc: Global,
+    era: u64,
+    map: PubKeyMap,
+) -> Result<Vec<u8>, AllocError> {
+    let mut buf = [0u8; ROOM];
+    let a = open(&mut buf, 45, map.len() as u64 * (ACKED + 1));
+    let b = write_parts(&mut buf, a, era, map);
+    let c = write_acks(&mut buf, b, era, map);
+    let len = bincode::write_u64(&mut buf, c, 0);
+    written(alloc, &buf, len)
 }
 
 // The bytes of a message.
-fn wire(message: Message) -> Written {
-    let mut bytes = [0u8; Written::LIMIT];
-    let len = message::write_message(&mut bytes, 0, message);
-    Written { bytes, len }
+fn wire(alloc: Global, message: Message) -> Result<Vec<u8>, AllocError> {
+    let mut buf = [0u8; ROOM];
+    let len = message::write_message(&mut buf, 0, message);
+    written(alloc, &buf, len)
 }
 
 // A vote of a node, as a message.
-pub(crate) fn vote_message(era: u64, id: u32, change: Change) -> Written {
-    wire(Message::of_vote(vote(era, id, change)))
+pub(crate) fn vote_message(
+    alloc: Global,
+    era: u64,
+    id: u32,
+    change: Change,
+) -> Result<Vec<u8>, AllocError> {
+    wire(alloc, Message::of_vote(vote(era, id, change)))
 }
 
 // A part of a node, as a message.
-pub(crate) fn part_message(era: u64, map: PubKeyMap, id: u32) -> Written {
+pub(crate) fn part_message(
+    alloc: Global,
+    era: u64,
+    map: PubKeyMap,
+    id: u32,
+) -> Result<Vec<u8>, AllocError> {
     let signer = node(id);
-    wire(Message::of_key_gen(era, part(map, id), signer.key))
+    wire(alloc, Message::of_key_gen(era, part(map, id), signer.key))
 }
 
 // An ack of a node on the part with index 0, as a message.
-pub(crate) fn ack_message(era: u64, map: PubKeyMap, id: u32) -> Written {
+pub(crate) fn ack_message(
+    alloc: Global,
+    era: u64,
+    map: PubKeyMap,
+    id: u32,
+) -> Result<Vec<u8>, AllocError> {
     let signer = node(id);
-    wire(Message::of_key_gen(era, ack(map, 0), signer.key))
+    wire(alloc, Message::of_key_gen(era, ack(map, 0), signer.key))
 }

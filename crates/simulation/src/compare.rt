@@ -1,5 +1,5 @@
 // In what two replicas differ first, in what they tell and in what they hold of what is shared.
-use crate::host::Faults;
+use crate::calls::Called;
 use batch::Batch;
 use board::{Board, Standing};
 use change::ChangeState;
@@ -7,16 +7,15 @@ use dynamic_honey_badger::DynamicHoneyBadger;
 use fault_log::{AckFault, FaultKind, PartFault};
 use key_gen::{KeyGen, Proposal};
 use key_gen_state::KeyGenState;
-use params::Params;
-use pub_key_map::PubKeyMap;
+use process_batch::Report;
 use signed_votes::SignedVotes;
+use std::fmt;
 use vote_counter::VoteCounter;
 use votes::SignedVote;
 
-// What differs first.
+// What differs.
 #[derive(Clone, Copy)]
 pub enum Difference {
-    Nothing,
     Refusal,
     Report,
     Faults,
@@ -28,287 +27,162 @@ pub enum Difference {
     KeyGeneration,
 }
 
-fn same_bytes(a: &[u8], b: &[u8]) -> bool {
-    if a.len() != b.len() {
-        return false;
+impl fmt::Display for Difference {
+    fn fmt<W: fmt::Write>(&self, f: &mut fmt::Formatter<W>) -> fmt::Result {
+        f.write_str(match self {
+            Difference::Refusal => "refusal",
+            Difference::Report => "report",
+            Difference::Faults => "faults",
+            Difference::Era => "era",
+            Difference::Roster => "roster",
+            Difference::Votes => "votes",
+            Difference::Board => "board",
+            Difference::Params => "params",
+            Difference::KeyGeneration => "key generation",
+        })
     }
-    let mut i: usize = 0;
-    while i < a.len() {
-        if i < b.len() {
-            if a[i] != b[i] {
-                return false;
-            }
-        }
-        i += 1;
-    }
-    true
 }
 
-// By their bytes, as the three below.
-fn same_params(a: Params, b: Params) -> bool {
-    let mut x = [0u8; 64];
-    let mut y = [0u8; 64];
-    let n = params::write_params(&mut x, 0, a);
-    let m = params::write_params(&mut y, 0, b);
-    if n != m {
-        return false;
-    }
-    same_bytes(&x, &y)
-}
-
+// By their bytes, as votes below: what is not encoded is not compared.
 fn same_change(a: ChangeState, b: ChangeState) -> bool {
     let mut x = [0u8; 256];
     let mut y = [0u8; 256];
     let n = change::write_state(&mut x, 0, a);
     let m = change::write_state(&mut y, 0, b);
-    if n != m {
-        return false;
-    }
-    same_bytes(&x, &y)
+    n == m && x == y
 }
 
-fn same_vote(a: SignedVote, b: SignedVote) -> bool {
+fn same_vote(a: &SignedVote, b: &SignedVote) -> bool {
     let mut x = [0u8; 256];
     let mut y = [0u8; 256];
-    let n = votes::write_signed_vote(&mut x, 0, a);
-    let m = votes::write_signed_vote(&mut y, 0, b);
-    if n != m {
-        return false;
-    }
-    same_bytes(&x, &y)
+    let n = votes::write_signed_vote(&mut x, 0, *a);
+    let m = votes::write_signed_vote(&mut y, 0, *b);
+    n == m && x == y
 }
 
 fn same_votes(a: SignedVotes, b: SignedVotes) -> bool {
     let n = a.len();
-    if n != b.len() {
-        return false;
-    }
-    let mut i: usize = 0;
-    while i < n {
-        let x = a.votes[i];
-        let y = b.votes[i];
-        if !same_vote(x, y) {
-            return false;
-        }
-        i += 1;
-    }
-    true
+    n == b.len()
+        && a.votes[..n]
+            .iter()
+            .zip(&b.votes[..n])
+            .all(|(x, y)| same_vote(x, y))
 }
 
 // Rows that are handed out; where there is none, both must say so.
-fn same_row(a: Standing, b: Standing) -> bool {
-    if a.found != b.found {
-        return false;
+fn same_row(a: Option<Standing>, b: Option<Standing>) -> bool {
+    match (a, b) {
+        (Some(x), Some(y)) => x.count == y.count && x.change.same(y.change),
+        (None, None) => true,
+        _ => false,
     }
-    if a.count != b.count {
-        return false;
-    }
-    let change = a.change;
-    let other_change = b.change;
-    change.same(other_change)
 }
 
 // Row by row, as the counters hand them out.
 fn same_board(a: VoteCounter, b: VoteCounter) -> bool {
-    let mut i: usize = 0;
-    while i < Board::LIMIT {
-        let x = a.board_row(i);
-        let y = b.board_row(i);
-        if !same_row(x, y) {
+    for i in 0..Board::LIMIT {
+        if !same_row(a.board_row(i), b.board_row(i)) {
             return false;
         }
-        i += 1;
-    }
-    true
-}
-
-// Whether the same nodes have acknowledged.
-fn same_acks(a: Proposal, b: Proposal) -> bool {
-    let mut i: usize = 0;
-    while i < PubKeyMap::LIMIT {
-        if a.acks[i] != b.acks[i] {
-            return false;
-        }
-        i += 1;
     }
     true
 }
 
 // Good values are a replica's own.
-fn same_proposal(a: Proposal, b: Proposal) -> bool {
-    if a.recorded != b.recorded {
-        return false;
-    }
-    if a.commit != b.commit {
-        return false;
-    }
-    same_acks(a, b)
+fn same_proposal(a: &Proposal, b: &Proposal) -> bool {
+    a.recorded == b.recorded && a.commit == b.commit && a.acks == b.acks
 }
 
 fn same_proposals(a: KeyGen, b: KeyGen) -> bool {
-    let mut i: usize = 0;
-    while i < PubKeyMap::LIMIT {
-        let x = a.proposals[i];
-        let y = b.proposals[i];
-        if !same_proposal(x, y) {
-            return false;
-        }
-        i += 1;
-    }
-    true
+    a.proposals
+        .iter()
+        .zip(&b.proposals)
+        .all(|(x, y)| same_proposal(x, y))
 }
 
 // Message counts are a replica's own.
 fn same_key_gen(a: KeyGenState, b: KeyGenState) -> bool {
-    if a.running != b.running {
-        return false;
+    if a.running && b.running {
+        let candidate = a.key_gen.pub_keys;
+        return candidate.same(b.key_gen.pub_keys) && same_proposals(a.key_gen, b.key_gen);
     }
-    if !a.running {
-        return true;
-    }
-    let x = a.key_gen;
-    let y = b.key_gen;
-    let candidate = x.pub_keys;
-    let other = y.pub_keys;
-    if !candidate.same(other) {
-        return false;
-    }
-    same_proposals(x, y)
+    a.running == b.running
 }
 
 // Era, map, committed votes and board.
-fn counter_difference(a: VoteCounter, b: VoteCounter) -> Difference {
+fn counter_difference(a: VoteCounter, b: VoteCounter) -> Option<Difference> {
     if a.era != b.era {
-        return Difference::Era;
+        return Some(Difference::Era);
     }
-    let map = a.pub_keys;
-    let other_map = b.pub_keys;
-    if !map.same(other_map) {
-        return Difference::Roster;
+    if !a.pub_keys.same(b.pub_keys) {
+        return Some(Difference::Roster);
     }
-    let votes = a.committed;
-    let other_votes = b.committed;
-    if !same_votes(votes, other_votes) {
-        return Difference::Votes;
+    if !same_votes(a.committed, b.committed) {
+        return Some(Difference::Votes);
     }
     if !same_board(a, b) {
-        return Difference::Board;
+        return Some(Difference::Board);
     }
-    Difference::Nothing
+    None
 }
 
 // Era, map, committed votes, board, parameters and key generation.
-pub(crate) fn shared_difference(a: DynamicHoneyBadger, b: DynamicHoneyBadger) -> Difference {
-    let counter = a.vote_counter;
-    let other_counter = b.vote_counter;
-    let Difference::Nothing = counter_difference(counter, other_counter) else {
-        return counter_difference(counter, other_counter);
-    };
-    let params = a.params;
-    let other_params = b.params;
-    if !same_params(params, other_params) {
-        return Difference::Params;
+pub(crate) fn shared_difference(
+    a: &DynamicHoneyBadger,
+    b: &DynamicHoneyBadger,
+) -> Option<Difference> {
+    let counter = counter_difference(a.vote_counter, b.vote_counter);
+    if counter.is_some() {
+        return counter;
     }
-    let key_gen = a.key_gen_state;
-    let other_key_gen = b.key_gen_state;
-    if !same_key_gen(key_gen, other_key_gen) {
-        return Difference::KeyGeneration;
+    if a.params != b.params {
+        return Some(Difference::Params);
     }
-    Difference::Nothing
+    if !same_key_gen(a.key_gen_state, b.key_gen_state) {
+        return Some(Difference::KeyGeneration);
+    }
+    None
 }
 
-pub(crate) fn same_report(a: Batch, b: Batch) -> bool {
-    if a.epoch != b.epoch {
-        return false;
-    }
-    if a.era != b.era {
-        return false;
-    }
-    let change = a.change;
-    let other_change = b.change;
-    if !same_change(change, other_change) {
-        return false;
-    }
-    let map = a.pub_keys;
-    let other_map = b.pub_keys;
-    if !map.same(other_map) {
-        return false;
-    }
-    let params = a.params;
-    let other_params = b.params;
-    same_params(params, other_params)
+fn same_batch(a: Batch, b: Batch) -> bool {
+    a.epoch == b.epoch
+        && a.era == b.era
+        && same_change(a.change, b.change)
+        && a.pub_keys.same(b.pub_keys)
+        && a.params == b.params
 }
 
-fn part_number(x: PartFault) -> u8 {
-    let kind = FaultKind::SyncKeyGenPart(x);
-    kind.number()
-}
-
-fn ack_number(x: AckFault) -> u8 {
-    let kind = FaultKind::SyncKeyGenAck(x);
-    kind.number()
-}
-
-// Whether a kind is one of a replica's own row of a part.
-fn is_of_row(kind: u8) -> bool {
-    if kind == part_number(PartFault::DecryptRow) {
-        return true;
-    }
-    if kind == part_number(PartFault::DeserializeRow) {
-        return true;
-    }
-    kind == part_number(PartFault::RowCommitment)
-}
-
-// Whether a kind is one of a replica's own value of an ack.
-fn is_of_value(kind: u8) -> bool {
-    if kind == ack_number(AckFault::DecryptValue) {
-        return true;
-    }
-    if kind == ack_number(AckFault::DeserializeValue) {
-        return true;
-    }
-    kind == ack_number(AckFault::ValueCommitment)
-}
-
-// Whether a kind of fault, by its number, follows from a replica's own verdicts.
+// Whether a kind of fault, by its number, follows from a replica's own verdicts: on its row of a part, or its value of an ack.
 fn is_own(kind: u8) -> bool {
-    if is_of_row(kind) {
-        return true;
-    }
-    is_of_value(kind)
+    [
+        FaultKind::SyncKeyGenPart(PartFault::DecryptRow),
+        FaultKind::SyncKeyGenPart(PartFault::DeserializeRow),
+        FaultKind::SyncKeyGenPart(PartFault::RowCommitment),
+        FaultKind::SyncKeyGenAck(AckFault::DecryptValue),
+        FaultKind::SyncKeyGenAck(AckFault::DeserializeValue),
+        FaultKind::SyncKeyGenAck(AckFault::ValueCommitment),
+    ]
+    .iter()
+    .any(|own| own.number() == kind)
 }
 
-// The faults that every replica must tell, in order.
-pub(crate) fn shared_faults(all: Faults) -> Faults {
-    let n = all.len();
-    let mut shared = Faults::empty();
-    let mut i: usize = 0;
-    while i < n {
-        let id = all.ids[i];
-        let kind = all.kinds[i];
-        if !is_own(kind) {
-            shared = shared.append(id, kind);
-        }
-        i += 1;
-    }
-    shared
+// The faults that every replica must tell are the others.
+pub(crate) fn is_shared(fault: &(u32, u8)) -> bool {
+    !is_own(fault.1)
 }
 
-pub(crate) fn same_faults(a: Faults, b: Faults) -> bool {
-    let n = a.len();
-    if n != b.len() {
-        return false;
+// The refusals or what was told: the reports, then the faults.
+pub(crate) fn told_difference(a: &Called, b: &Called) -> Option<Difference> {
+    let same_reports = match (a.outcome, b.outcome) {
+        (Ok(x), Ok(y)) => same_batch(x.batch, y.batch),
+        (Err(x), Err(y)) if x == y => return None,
+        _ => return Some(Difference::Refusal),
+    };
+    if !same_reports {
+        return Some(Difference::Report);
     }
-    let mut i: usize = 0;
-    while i < n {
-        if a.ids[i] != b.ids[i] {
-            return false;
-        }
-        if a.kinds[i] != b.kinds[i] {
-            return false;
-        }
-        i += 1;
+    if a.faults != b.faults {
+        return Some(Difference::Faults);
     }
-    true
+    None
 }

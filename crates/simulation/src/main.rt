@@ -2,23 +2,21 @@
 #![tactic(auto)]
 
 mod batches;
+mod calls;
 mod compare;
 mod fleet;
-mod host;
 mod season;
 mod show;
 
 use std::process::ExitCode;
 
-// Where writing failed, that was said, and the exit status says so too.
+// Where writing fails, that is said in one line, and the exit status says so too.
 fn main(rt: HostRuntime) -> ExitCode {
-    let f = season::start(&rt);
-    let grown = season::grow(&rt, f);
-    let shrunk = season::shrink(&rt, grown);
-    let ended = season::end(&rt, shrunk);
-    if season::wait(&rt, ended) {
-        ExitCode::SUCCESS
-    } else {
-        ExitCode::FAILURE
+    match season::play(&rt) {
+        Ok(()) => ExitCode::SUCCESS,
+        Err(e) => {
+            let _ = eprintln!(rt; "simulation: {e:#}");
+            ExitCode::FAILURE
+        }
     }
 }

@@ -6,15 +6,13 @@ use mathlib.Core.List.{List, [], ◌∷◌, ◌++◌, map, map-append}
 use mathlib.Core.Bool.{Bool, true, false}
 use native.Mathlib.Omega.{arith}
 use native.Mathlib.Numerals.{add-one}
-use lib.ListN.{length, take, drop, get_or, set, length-append, length-take, get_or-map}
-use lib.Seq.{drop-cons, take_all, take-suc, take-suc-set, get_or-take}
+use lib.ListN.{length, take, drop, get_or, set, length-append, get_or-map}
+use lib.Seq.{drop-cons, take_all, take-suc-set, get_or-take}
 use Rattle.lists.specs.Lists.{filter}
-use Rattle.lists.proofs.ListLaws.{rest_none}
 use Rattle.bincode.specs.Read.{value, refuse}
 use Rattle.bincode.specs.Sizes.{base}
 use Rattle.bincode.specs.Items.{foldl}
 use Rattle.bincode.proofs.NumberLaws.{read_cut}
-use Rattle.bincode.proofs.ItemLaws.{foldl_more}
 use Rattle.filled.proofs.FillLaws.{capped_more, capped_same}
 use Rattle.sync_key_gen.specs.declared.Handles.{Handles}
 use Rattle.key_gen_message.specs.declared.KeyGenKind.{KeyGenKind}
@@ -24,7 +22,6 @@ use Rattle.key_gen_message.specs.KeyGenMessage.{SignedKeyGenMsgOf, read_signed_k
 use Rattle.key_gen_message.specs.Head.{body_of}
 use Rattle.key_gen_message.proofs.MessageLaws.{signed_true}
 use Rattle.internal_contrib.specs.declared.Contrib.{Contrib}
-use Rattle.internal_contrib.specs.Index.{no_contrib}
 use Rattle.steps.specs.Kept.{is_none}
 use Rattle.steps.proofs.KeepLaws.{without_all}
 use Rattle.store_filter.specs.Filter.{Entry, entries_from, listed, contrib_listed, entries_in, message_in, without_entries, entry_id, entry_first, entry_place, number_in, ReadAt, AllRead, Listed, Room}
@@ -91,9 +88,6 @@ module _ (s : List ℕ) (es : List Entry) (n : ℕ) (ids firsts places : List �
     pub search_miss : same ≡ false → is_none (map message_in (drop i es)) x ≡ is_none (map message_in (drop (i + 1) es)) x
     search_miss t = rw (rest, sym e ∙ t)
 
-pub search_end : (es : List Entry) (i : ℕ) (x : SignedKeyGenMsgOf) → length es ≤ i → is_none (map message_in (drop i es)) x ≡ true
-search_end es i x h = rw (rest_none es i h)
-
 -- messages with different numbers differ
 pub other_by : (f : SignedKeyGenMsgOf → ℕ) (a b : SignedKeyGenMsgOf) → (f a ≡ f b → ⊥) → false ≡ same_signed a b
 other_by f a b d = go (same_signed a b) refl
@@ -129,20 +123,9 @@ entries_past s (suc n) at h = rw (read_cut 8 s (at + 8) (omega arith))
 
 -- a loop over the contributions below a count
 module _ (s : List ℕ) (array : List Contrib) (count i : ℕ) where
-  pub contribs_more : i < length (take count array)
-      → contrib_listed s (foldl (contrib_listed s) [] (take i (take count array))) (get_or array i no_contrib) ≡ foldl (contrib_listed s) [] (take (i + 1) (take count array))
-  contribs_more h =
-      let k : i < count = omega (arith, length-take count array) in
-      let t : take (i + 1) (take count array) ≡ take i (take count array) ++ (get_or array i no_contrib ∷ []) = rw (add-one i, take-suc (take count array) i no_contrib h, get_or-take count array i no_contrib k) in
-      sym (ap (λ (ks : List Contrib). foldl (contrib_listed s) [] ks) t ∙ foldl_more (contrib_listed s) [] (take i (take count array)) (get_or array i no_contrib))
-
   pub contribs_end : length (take count array) ≤ i → foldl (contrib_listed s) [] (take i (take count array)) ≡ entries_in s (take count array)
   unfolding entries_in
   contribs_end h = ap (λ (ks : List Contrib). foldl (contrib_listed s) [] ks) (take_all i (take count array) h)
-
--- nothing is listed yet
-pub list_start : (s ids firsts places : List ℕ) → Listed s [] 0 ids firsts places
-list_start s ids firsts places = record { count = refl; by_id = refl; by_first = refl; by_place = refl; by_bytes = tt }
 
 -- where nothing is listed, or nothing is stored, the store stays
 pub none_listed : (es : List Entry) → length es ≡ 0 → (store : List SignedKeyGenMsgOf) → store ≡ without_entries es store

@@ -12,7 +12,6 @@ ghost use Rattle.message_store.specs.MessageStore.{store_of};
 ghost use Rattle.steps.specs.Kept.{is_none};
 ghost use Rattle.store_filter.specs.Filter.{Entry, entries_from, listed, contrib_listed, entries_in, message_in, without_entries, entry_id, first_of, entry_first, number_in, ReadAt, Listed, Room};
 
-use bincode::Step;
 use internal_contrib::{BatchIndex, Contrib};
 use key_gen_message::{KeyGenKind, SignedKeyGenMsg};
 use message_store::MessageStore;
@@ -34,17 +33,13 @@ fn number_in(kind: KeyGenKind) -> u64
 fn is_at(x: SignedKeyGenMsg, id: u32, first: u64, s: &[u8], at: usize) -> bool
     ensures { (e : Entry) → ReadAt s.now e → entry_id e ≡ id → entry_first e ≡ first → e.at ≡ at → result ≡ same_signed (signed_of x) e.message }
 {
-    if x.id != id {
+    if x.id != id || number_in(x.message.kind) != first {
         return false;
     }
-    let message = x.message;
-    let kind = message.kind;
-    if number_in(kind) != first {
-        return false;
+    match key_gen_message::read_signed(s, at) {
+        Ok((m, _)) => x.same(m),
+        Err(_) => false,
     }
-    let r = key_gen_message::read_signed(s, at);
-    let m = r.signed;
-    x.same(m)
 }
 
 // Whether a stored message is one of the n that are listed.
@@ -59,12 +54,10 @@ fn is_committed(
     requires { Room ids.now firsts.now places.now × (n ≤ base.items) }
     ensures { (es : List Entry) → Listed s.now es n ids.now firsts.now places.now → not result ≡ is_none (map message_in es) (signed_of x) }
 {
-    let mut i: usize = 0;
-    while i < n {
+    for i in 0..n {
         if is_at(x, ids[i], firsts[i], s, places[i] as usize) {
             return true;
         }
-        i += 1;
     }
     false
 }
@@ -110,17 +103,12 @@ fn list_messages(
 {
     let mut m = n;
     let mut c = at;
-    let mut i: u64 = 0;
-    while i < k {
-        let r = key_gen_message::read_head(s, c);
-        let step = r.step;
-        let Step::Next(next) = step else {
+    for _ in 0..k {
+        let Ok((h, next)) = key_gen_message::read_head(s, c) else {
             return m;
         };
-        let h = r.head;
         m = list_message(ids, firsts, places, m, h.id, h.first, c);
         c = next;
-        i += 1;
     }
     m
 }
@@ -140,9 +128,10 @@ fn list_contrib(
         × Room ids.new firsts.new places.new × (result ≤ base.items) }
 {
     if s.len() < e.messages {
-        return n;
+        n
+    } else {
+        list_messages(s, e.messages + 8, e.message_count, ids, firsts, places, n)
     }
-    list_messages(s, e.messages + 8, e.message_count, ids, firsts, places, n)
 }
 
 // The messages of all contributions of a batch.
@@ -159,11 +148,9 @@ fn list_batch(
 {
     let n = index.len();
     let mut m: usize = 0;
-    let mut i: usize = 0;
-    while i < n {
+    for i in 0..n {
         let e = index.contribs[i];
         m = list_contrib(s, e, ids, firsts, places, m);
-        i += 1;
     }
     m
 }
@@ -182,14 +169,12 @@ fn keep_others(
 {
     let n = store.len();
     let mut kept: usize = 0;
-    let mut i: usize = 0;
-    while i < n {
+    for i in 0..n {
         let x = store.messages[i];
         if !is_committed(x, s, ids, firsts, places, m) {
             store.messages[kept] = x;
             kept += 1;
         }
-        i += 1;
     }
     store.count = kept;
     store

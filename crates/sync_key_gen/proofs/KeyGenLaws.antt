@@ -1,18 +1,21 @@
--- Laws of handles, parts and acks: their lengths in bytes, equality of handles, and what an answer that holds handles tells.
+-- Laws of handles, parts and acks: their lengths in bytes, equality of handles, and what the writer's loop starts with.
 -- Assumes nothing.
-use Prim.Native.Nat.{ℕ, ◌+◌, ◌*◌}
+use Prim.Native.Nat.{ℕ, ◌+◌, ◌*◌, ◌≤◌}
 use mathlib.Core.Path.{◌≡◌, refl}
 use mathlib.Core.List.{List, [], ◌∷◌}
 use mathlib.Core.Bool.{true}
 use native.Mathlib.Omega.{arith}
 use lib.Dec.{eqb}
-use lib.ListN.{length, length-append}
+use lib.ListN.{length, take, length-append}
 use borrow.Author.Tests.{eq-eqb, eqb-true}
-use Rattle.lists.proofs.ListLaws.{eq_list_true, eq_list_refl}
+use Rattle.lists.proofs.ListLaws.{eq_list_true, eq_list_refl, take_live}
 use Rattle.bincode.specs.Numbers.{bytes_of}
 use Rattle.bincode.specs.Stands.{concat_map}
 use Rattle.bincode.proofs.NumberLaws.{length_bytes_of}
-use Rattle.sync_key_gen.specs.SyncKeyGen.{same_handles, PartOf, AckOf, handles_bytes, part_bytes, ack_bytes}
+use Rattle.bincode.specs.Writing.{written, written_to}
+use Rattle.bincode.proofs.WriteLaws.{Putting, put_counted}
+use Rattle.sync_key_gen.specs.declared.Handles.{Handles}
+use Rattle.sync_key_gen.specs.SyncKeyGen.{handles_of, same_handles, PartOf, AckOf, handles_bytes, part_bytes, ack_bytes}
 
 length_values : (xs : List ℕ) → length (concat_map (bytes_of 8) xs) ≡ 8 * length xs
 length_values [] = refl
@@ -36,3 +39,13 @@ handles_true = eq_list_true eqb eqb-true
 
 pub handles_refl : (xs : List ℕ) → same_handles xs xs ≡ true
 handles_refl = eq_list_refl eqb (λ x. eq-eqb x x refl)
+
+-- handles whose count is written: what the loop over them keeps holds before the first turn
+module _ (h : Handles) (n : ℕ) (e : n ≡ length (handles_of h)) (buf : List ℕ) (at : ℕ) where
+  pub put_handles : at + length (handles_bytes (handles_of h)) ≤ length buf
+      → Putting (bytes_of 8) (take n h.values) (written buf at (handles_bytes (handles_of h))) (written_to buf at (handles_bytes (handles_of h))) 0 (written buf at (bytes_of 8 n)) (written_to buf at (bytes_of 8 n))
+  unfolding handles_bytes
+  put_handles room =
+      let live : take n h.values ≡ handles_of h = rw e (take_live h.count h.values) in
+      let p = put_counted (bytes_of 8) (handles_of h) buf at n e room in
+      rw live record { fits = p.0; content = p.1; stop = p.2 }

@@ -6,13 +6,9 @@ use Rattle.bincode.specs.Numbers.{read_num, bytes_of, fixed}
 use Rattle.bincode.specs.Sizes.{Sizes, base}
 use Rattle.bincode.specs.Items.{counted, plain, stay}
 use Rattle.bincode.specs.Stands.{concat, concat_map, All}
-use Rattle.bincode.specs.Answer.{step_of, held_of}
 use Rattle.sync_key_gen.specs.declared.Handles.{Handles}
 use Rattle.sync_key_gen.specs.declared.Part.{Part}
 use Rattle.sync_key_gen.specs.declared.Ack.{Ack}
-use Rattle.sync_key_gen.specs.declared.ReadHandles.{ReadHandles}
-use Rattle.sync_key_gen.specs.declared.ReadPart.{ReadPart}
-use Rattle.sync_key_gen.specs.declared.ReadAck.{ReadAck}
 
 -- the handles of any value of the struct, and the struct that holds a list of them
 abbrev pub handles_of : Handles → List ℕ
@@ -88,18 +84,9 @@ part_held p = record { commit = p.commit; rows = handles_held p.rows }
 abbrev pub ack_held : AckOf → Ack
 ack_held a = record { proposer = a.proposer; values = handles_held a.values }
 
--- the answers as code gives them; the value beside a refusal is the empty one
+-- what stands where there is no part, and no ack
 abbrev pub no_part : PartOf
 no_part = record { commit = 0; rows = [] }
 
 abbrev pub no_ack : AckOf
 no_ack = record { proposer = 0; values = [] }
-
-abbrev pub handles_answer : Read (List ℕ) → ReadHandles
-handles_answer x = record { step = step_of x; handles = held_of handles_held (handles_held []) x }
-
-abbrev pub part_answer : Read PartOf → ReadPart
-part_answer x = record { step = step_of x; part = held_of part_held (part_held no_part) x }
-
-abbrev pub ack_answer : Read AckOf → ReadAck
-ack_answer x = record { step = step_of x; ack = held_of ack_held (ack_held no_ack) x }

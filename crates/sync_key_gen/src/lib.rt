@@ -2,13 +2,13 @@
 #![tactic(auto)]
 
 ghost use Rattle.std.specs.Prelude.{◌≡◌, [], ◌+◌, ◌*◌, ◌≤◌, length};
-ghost use Rattle.bincode.specs.Read.{refuse};
+ghost use Rattle.bincode.specs.Answer.{answer};
 ghost use Rattle.bincode.specs.Sizes.{base};
 ghost use Rattle.bincode.specs.Writing.{written, written_to};
-ghost use Rattle.sync_key_gen.specs.SyncKeyGen.{handles_of, handles_held, same_handles, read_handles, handles_answer, handles_bytes, part_of};
-ghost use Rattle.sync_key_gen.specs.SyncKeyGen.{read_part, part_answer, part_bytes, ack_of, read_ack, ack_answer, ack_bytes};
+ghost use Rattle.sync_key_gen.specs.SyncKeyGen.{handles_of, handles_held, same_handles, read_handles, handles_bytes, part_of, part_held};
+ghost use Rattle.sync_key_gen.specs.SyncKeyGen.{read_part, part_bytes, ack_of, ack_held, read_ack, ack_bytes};
 
-use bincode::{ReadU64, Step};
+use bincode::Refusal;
 
 // Encrypted rows or values, one for each node; places from `count` on hold 0.
 #[derive(Clone, Copy)]
@@ -40,29 +40,13 @@ impl Handles {
     pub fn len(self) -> usize
         ensures { (result ≡ length (handles_of self)) × (result ≤ base.rows) }
     {
-        let n = self.count;
-        if n < Handles::LIMIT {
-            n
-        } else {
-            Handles::LIMIT
-        }
+        self.count.min(Handles::LIMIT)
     }
 
     pub fn same(self, other: Handles) -> bool
         ensures { result ≡ same_handles (handles_of self) (handles_of other) }
     {
-        let n = self.len();
-        if n != other.len() {
-            return false;
-        }
-        let mut i: usize = 0;
-        while i < n {
-            if self.values[i] != other.values[i] {
-                return false;
-            }
-            i += 1;
-        }
-        true
+        self.values[..self.len()] == other.values[..other.len()]
     }
 }
 
@@ -80,118 +64,46 @@ pub struct Ack {
     pub values: Handles,
 }
 
-#[derive(Clone, Copy)]
-pub struct ReadHandles {
-    pub step: Step,
-    pub handles: Handles,
-}
-
-#[derive(Clone, Copy)]
-pub struct ReadPart {
-    pub step: Step,
-    pub part: Part,
-}
-
-#[derive(Clone, Copy)]
-pub struct ReadAck {
-    pub step: Step,
-    pub ack: Ack,
-}
-
-fn refused_handles(n: u8) -> ReadHandles
-    ensures { result ≡ handles_answer (refuse n) }
+pub fn read_handles(s: &[u8], at: usize) -> Result<(Handles, usize), Refusal>
+    ensures { result ≡ answer handles_held (read_handles base s.now at) }
 {
-    ReadHandles {
-        step: Step::Refused(n),
-        handles: Handles::empty(),
-    }
-}
-
-pub fn read_handles(s: &[u8], at: usize) -> ReadHandles
-    ensures { result ≡ handles_answer (read_handles base s.now at) }
-{
-    let ReadU64::Value(n, first) = bincode::read_u64(s, at) else {
-        return refused_handles(2);
+    let Ok((n, first)) = bincode::read_u64(s, at) else {
+        return Err(Refusal::Malformed);
     };
     if (Handles::LIMIT as u64) < n {
-        return refused_handles(3);
+        return Err(Refusal::TooLarge);
     }
     let count = n as usize;
     let mut values = [0; Handles::LIMIT];
     let mut c = first;
-    let mut i: usize = 0;
-    while i < count {
-        let ReadU64::Value(x, next) = bincode::read_u64(s, c) else {
-            return refused_handles(2);
+    for i in 0..count {
+        let Ok((x, next)) = bincode::read_u64(s, c) else {
+            return Err(Refusal::Malformed);
         };
         values[i] = x;
         c = next;
-        i += 1;
     }
-    ReadHandles {
-        step: Step::Next(c),
-        handles: Handles { count, values },
-    }
+    Ok((Handles { count, values }, c))
 }
 
-fn refused_part(n: u8) -> ReadPart
-    ensures { result ≡ part_answer (refuse n) }
+pub fn read_part(s: &[u8], at: usize) -> Result<(Part, usize), Refusal>
+    ensures { result ≡ answer part_held (read_part base s.now at) }
 {
-    ReadPart {
-        step: Step::Refused(n),
-        part: Part {
-            commit: 0,
-            rows: Handles::empty(),
-        },
-    }
+    let Ok((commit, c)) = bincode::read_u64(s, at) else {
+        return Err(Refusal::Malformed);
+    };
+    let (rows, d) = read_handles(s, c)?;
+    Ok((Part { commit, rows }, d))
 }
 
-pub fn read_part(s: &[u8], at: usize) -> ReadPart
-    ensures { result ≡ part_answer (read_part base s.now at) }
+pub fn read_ack(s: &[u8], at: usize) -> Result<(Ack, usize), Refusal>
+    ensures { result ≡ answer ack_held (read_ack base s.now at) }
 {
-    let ReadU64::Value(commit, c) = bincode::read_u64(s, at) else {
-        return refused_part(2);
+    let Ok((proposer, c)) = bincode::read_u64(s, at) else {
+        return Err(Refusal::Malformed);
     };
-    let r = read_handles(s, c);
-    let step = r.step;
-    let rows = r.handles;
-    let Step::Next(d) = step else {
-        return refused_part(step.number());
-    };
-    ReadPart {
-        step: Step::Next(d),
-        part: Part { commit, rows },
-    }
-}
-
-fn refused_ack(n: u8) -> ReadAck
-    ensures { result ≡ ack_answer (refuse n) }
-{
-    ReadAck {
-        step: Step::Refused(n),
-        ack: Ack {
-            proposer: 0,
-            values: Handles::empty(),
-        },
-    }
-}
-
-pub fn read_ack(s: &[u8], at: usize) -> ReadAck
-    ensures { result ≡ ack_answer (read_ack base s.now at) }
-{
-    let ReadU64::Value(proposer, c) = bincode::read_u64(s, at) else {
-        return refused_ack(2);
-    };
-    let r = read_handles(s, c);
-    let step = r.step;
-    let values = r.handles;
-    let Step::Next(d) = step else {
-        return refused_ack(step.number());
-    };
-    ReadAck {
-        step: Step::Next(d),
-        ack: Ack { proposer, values },
-    }
+    let (values, d) = read_handles(s, c)?;
+    Ok((Ack { proposer, values }, d))
 }
 
 // How many bytes handles take, behind their count.
@@ -207,12 +119,9 @@ pub fn write_handles(buf: &mut [u8], at: usize, h: Handles) -> usize
 {
     if bincode::room(buf.len(), at, handles_size(h)) {
         let n = h.len();
-        let values = h.values;
         let mut c = bincode::write_u64(buf, at, n as u64);
-        let mut i: usize = 0;
-        while i < n {
-            c = bincode::write_u64(buf, c, values[i]);
-            i += 1;
+        for x in &h.values[..n] {
+            c = bincode::write_u64(buf, c, *x);
         }
         c
     } else {

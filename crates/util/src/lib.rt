@@ -8,8 +8,5 @@ ghost use Rattle.util.specs.MaxFaulty.{max_faulty};
 pub fn max_faulty(n: usize) -> usize
     ensures { result ≡ max_faulty n }
 {
-    if n == 0 {
-        return 0;
-    }
-    (n - 1) / 3
+    n.saturating_sub(1) / 3
 }

@@ -16,7 +16,6 @@ use Rattle.winner.proofs.WinnerPlaces.{stops_first, place_chooses}
 use Rattle.votes.specs.Votes.{SignedVoteOf, no_signed}
 use Rattle.vote_counter.specs.VoteCounter.{CounterOf, compute_winner, winner_at}
 use Rattle.vote_counter.specs.Answers.{choice_at}
-use Rattle.vote_counter.specs.declared.SignOutcome.TheVariants as sign
 
 pub winner_more : (c : CounterOf) (ch : ChangeOf) → compute_winner c ≡ found ch → max_faulty (length c.nodes) < support same_change ch (map (λ v. v.vote.change) c.committed)
 unfolding compute_winner
@@ -57,7 +56,3 @@ winner_chosen c = go (winner_at c) ∙ place_chooses same_change (max_faulty (le
     go : (r : Found ℕ) → map_found (choice_at c.committed) r ≡ map_found (λ i. get_or (choices c) i no_signed.vote.change) r
     go (found i) = ap found (sym (choice_is c i))
     go nothing = refl
-
--- a vote that is signed is not refused
-pub signed_not_refused : (n : ℕ) → sign.Signed ≡ sign.Refused n → ⊥
-signed_not_refused n e = let z : ◌≡◌ {A = ℕ} 0 1 = cc in omega arith

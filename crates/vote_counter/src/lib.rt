@@ -1,8 +1,8 @@
 // votes.rs: the counter of pending and committed votes of one era, and the board of the committed ones.
 #![tactic(auto)]
 
-ghost use Rattle.std.specs.Prelude.{◌≡◌, ℕ, ◌<◌, length};
-ghost use Rattle.lists.specs.Lists.{found, map_found, at_place};
+ghost use Rattle.std.specs.Prelude.{◌≡◌, ℕ, ◌<◌, length, Some};
+ghost use Rattle.lists.specs.Lists.{map_found, at_place, option_as_found};
 ghost use Rattle.bincode.specs.Sizes.{base};
 ghost use Rattle.bincode.specs.Outcome.{done};
 ghost use Rattle.pub_key_map.specs.PubKeyMap.{nodes_of};
@@ -10,17 +10,17 @@ ghost use Rattle.network_info.specs.NetworkInfo.{key_of};
 ghost use Rattle.change.specs.Change.{change_of};
 ghost use Rattle.votes.specs.Votes.{signed_of};
 ghost use Rattle.signed_votes.specs.SignedVotes.{votes_of};
-ghost use Rattle.board.specs.Board.{said_standing, NoStandingEmpty};
+ghost use Rattle.board.specs.Board.{said_standing};
 ghost use Rattle.vote_counter.specs.VoteCounter.{new_held, counter_of, with_committed, board_after, board_row, obsolete, is_key, commit_vote, add_pending, add_committed};
 ghost use Rattle.vote_counter.specs.VoteCounter.{signed_with, sign_vote_for, pending_votes, compute_winner, winner_at};
-ghost use Rattle.vote_counter.specs.Answers.{added_of, committed_of, signed_answer, SignRefusedKeeps, said_pending, NonePendingEmpty, choice_at, said_winner};
+ghost use Rattle.vote_counter.specs.Answers.{added_of, committed_of, signed_answer, SignRefusedKeeps, choice_at};
 
+use bincode::Refusal;
 use board::{Board, Standing};
 use change::Change;
 use fault_log::FaultKind;
-use network_info::NodeKey;
 use pub_key_map::PubKeyMap;
-use signed_votes::{SignedVotes, VoteNum};
+use signed_votes::SignedVotes;
 use votes::{SignedVote, Vote};
 
 #[derive(Clone, Copy)]
@@ -56,33 +56,11 @@ pub struct VoteCommitted {
     pub outcome: VoteOutcome,
 }
 
-// Whether an own vote was signed, or row 11.
-#[derive(Clone, Copy)]
-pub enum SignOutcome {
-    Signed,
-    Refused(u8),
-}
-
-// The vote stands beside the outcome; where signing was refused it is empty, and the counter is the one given.
+// An own vote that was signed, or row 11; where signing was refused the counter is the one given.
 #[derive(Clone, Copy)]
 pub struct VoteSigned {
     pub counter: VoteCounter,
-    pub outcome: SignOutcome,
-    pub vote: SignedVote,
-}
-
-// A pending vote that is handed out, or that there is none at the place; the vote beside it is then empty.
-#[derive(Clone, Copy)]
-pub struct PendingVote {
-    pub found: bool,
-    pub vote: SignedVote,
-}
-
-// The place of the winning voter among the committed votes.
-#[derive(Clone, Copy)]
-pub enum Winner {
-    Voter(usize),
-    Nobody,
+    pub outcome: Result<SignedVote, Refusal>,
 }
 
 // Whether a vote is numbered at or below its voter's stored one.
@@ -90,26 +68,20 @@ fn is_obsolete(votes: SignedVotes, x: SignedVote) -> bool
     ensures { result ≡ obsolete (votes_of votes) (signed_of x) }
 {
     let vote = x.vote;
-    let VoteNum::Num(old) = votes.num_of(x.voter) else {
-        return false;
-    };
-    if vote.num <= old {
-        return true;
+    match votes.num_of(x.voter) {
+        Some(old) => vote.num <= old,
+        None => false,
     }
-    false
 }
 
 // Whether a vote is signed under its voter's key of a map.
 fn is_valid(map: PubKeyMap, x: SignedVote) -> bool
     ensures { result ≡ is_key x.sig (key_of (nodes_of map) x.voter) }
 {
-    let NodeKey::Key(key) = network_info::node_key(map, x.voter) else {
-        return false;
-    };
-    if key == x.sig {
-        return true;
+    match network_info::node_key(map, x.voter) {
+        Some(key) => key == x.sig,
+        None => false,
     }
-    false
 }
 
 // A vote of a batch among the committed votes: number, then era, then signature. One exit: so the votes that stay are not copied.
@@ -122,14 +94,10 @@ pub fn commit_vote(votes: SignedVotes, era: u64, map: PubKeyMap, x: SignedVote) 
     let mut outcome = VoteOutcome::Faulty(FaultKind::InvalidCommittedVote);
     if is_obsolete(votes, x) {
         outcome = VoteOutcome::Nothing;
-    } else {
-        if vote.era == era {
-            if is_valid(map, x) {
-                taken = votes.takes(x.voter);
-                next = votes.put(x);
-                outcome = VoteOutcome::Stored;
-            }
-        }
+    } else if vote.era == era && is_valid(map, x) {
+        taken = votes.takes(x.voter);
+        next = votes.put(x);
+        outcome = VoteOutcome::Stored;
     }
     VoteCommitted {
         votes: next,
@@ -161,16 +129,12 @@ impl VoteCounter {
         let map = self.pub_keys;
         let old = self.pending;
         let mut outcome = VoteOutcome::Nothing;
-        if vote.era == self.era {
-            if is_obsolete(old, x) {
-                outcome = VoteOutcome::Nothing;
+        if vote.era == self.era && !is_obsolete(old, x) {
+            if is_valid(map, x) {
+                self.pending = old.put(x);
+                outcome = VoteOutcome::Stored;
             } else {
-                if is_valid(map, x) {
-                    self.pending = old.put(x);
-                    outcome = VoteOutcome::Stored;
-                } else {
-                    outcome = VoteOutcome::Faulty(FaultKind::InvalidVoteSignature);
-                }
+                outcome = VoteOutcome::Faulty(FaultKind::InvalidVoteSignature);
             }
         }
         let pending = self.pending;
@@ -234,8 +198,7 @@ impl VoteCounter {
         self.pending = next;
         VoteSigned {
             counter: self,
-            outcome: SignOutcome::Signed,
-            vote: x,
+            outcome: Ok(x),
         }
     }
 
@@ -244,52 +207,41 @@ impl VoteCounter {
         ensures { (signed_answer result ≡ sign_vote_for base (counter_of self) (change_of change)) × SignRefusedKeeps result self }
     {
         let pending = self.pending;
-        let VoteNum::Num(num) = pending.num_of(self.our_id) else {
+        let Some(num) = pending.num_of(self.our_id) else {
             return self.sign_with(change, 0);
         };
-        if num == 18446744073709551615 {
+        if num == u64::MAX {
             return VoteSigned {
                 counter: self,
-                outcome: SignOutcome::Refused(11),
-                vote: SignedVote::empty(),
+                outcome: Err(Refusal::LastVoteNumber),
             };
         }
         self.sign_with(change, num + 1)
     }
 
     // The pending vote at a place, 0 first, of those newer than their voter's committed vote.
-    pub fn pending_vote(self, place: usize) -> PendingVote
-        ensures { (said_pending result ≡ at_place place (pending_votes (counter_of self))) × NonePendingEmpty result }
+    pub fn pending_vote(self, place: usize) -> Option<SignedVote>
+        ensures { option_as_found signed_of result ≡ at_place place (pending_votes (counter_of self)) }
     {
         let pending = self.pending;
         let committed = self.committed;
         let n = pending.len();
         let mut left = place;
-        let mut i: usize = 0;
-        while i < n {
+        for i in 0..n {
             let x = pending.votes[i];
-            if is_obsolete(committed, x) {
-                i += 1;
-            } else {
+            if !is_obsolete(committed, x) {
                 if left == 0 {
-                    return PendingVote {
-                        found: true,
-                        vote: x,
-                    };
+                    return Some(x);
                 }
                 left -= 1;
-                i += 1;
             }
         }
-        PendingVote {
-            found: false,
-            vote: SignedVote::empty(),
-        }
+        None
     }
 
     // The row of the board at a place, 0 first, as the counter holds it.
-    pub fn board_row(self, place: usize) -> Standing
-        ensures { (said_standing result ≡ board_row (counter_of self) place) × NoStandingEmpty result }
+    pub fn board_row(self, place: usize) -> Option<Standing>
+        ensures { option_as_found said_standing result ≡ board_row (counter_of self) place }
     {
         let board = self.board;
         let committed = self.committed;
@@ -297,35 +249,31 @@ impl VoteCounter {
     }
 
     // The first voter, by ascending id, whose change more than f voters up to there have chosen; its place is one of the votes.
-    pub fn compute_winner(self) -> Winner
-        ensures { (map_found (choice_at (votes_of self.committed)) (said_winner result) ≡ compute_winner (counter_of self))
-            × ((i : ℕ) → said_winner result ≡ found i → i < length (votes_of self.committed))
-            × (said_winner result ≡ winner_at (counter_of self)) }
+    pub fn compute_winner(self) -> Option<usize>
+        ensures { (map_found (choice_at (votes_of self.committed)) (option_as_found (λ (x : ℕ). x) result) ≡ compute_winner (counter_of self))
+            × ((i : ℕ) → result ≡ Some i → i < length (votes_of self.committed))
+            × (option_as_found (λ (x : ℕ). x) result ≡ winner_at (counter_of self)) }
     {
         let map = self.pub_keys;
         let f = network_info::num_faulty(map);
         let committed = self.committed;
         let n = committed.len();
-        let mut won = Winner::Nobody;
-        let mut i: usize = 0;
-        'voters: while i < n {
+        let mut won = None;
+        'voters: for i in 0..n {
             let x = committed.votes[i];
             let vote = x.vote;
             let change = vote.change;
             let mut count: usize = 0;
-            let mut j: usize = 0;
-            while j <= i {
+            for j in 0..i + 1 {
                 let other = committed.votes[j];
                 if other.is_for(change) {
                     count += 1;
                     if f < count {
-                        won = Winner::Voter(i);
+                        won = Some(i);
                         break 'voters;
                     }
                 }
-                j += 1;
             }
-            i += 1;
         }
         won
     }

@@ -4,12 +4,9 @@ use Rattle.bincode.specs.Read.{Read, value, bind}
 use Rattle.bincode.specs.Numbers.{read_num, bytes_of, fixed}
 use Rattle.bincode.specs.Sizes.{Sizes}
 use Rattle.bincode.specs.Stands.{concat}
-use Rattle.bincode.specs.Answer.{step_of, held_of}
 use Rattle.change.specs.Change.{ChangeOf, node_change, change_of, change_held, read_change, change_bytes, ChangeOk}
 use Rattle.votes.specs.declared.Vote.{Vote}
 use Rattle.votes.specs.declared.SignedVote.{SignedVote}
-use Rattle.votes.specs.declared.ReadVote.{ReadVote}
-use Rattle.votes.specs.declared.ReadSignedVote.{ReadSignedVote}
 
 pub record VoteOf : Type 0 where
   pub change : ChangeOf
@@ -67,16 +64,9 @@ signed_of x = record { vote = vote_of x.vote; voter = x.voter; sig = x.sig }
 abbrev pub signed_held : SignedVoteOf → SignedVote
 signed_held x = record { vote = vote_held x.vote; voter = x.voter; sig = x.sig }
 
--- what stands where no vote is held, and beside a refusal
+-- what stands where no vote is held
 abbrev pub no_vote : VoteOf
 no_vote = record { change = node_change []; era = 0; num = 0 }
 
 abbrev pub no_signed : SignedVoteOf
 no_signed = record { vote = no_vote; voter = 0; sig = 0 }
-
--- the answers as code gives them
-abbrev pub vote_answer : Read VoteOf → ReadVote
-vote_answer x = record { step = step_of x; vote = held_of vote_held (vote_held no_vote) x }
-
-abbrev pub signed_answer : Read SignedVoteOf → ReadSignedVote
-signed_answer x = record { step = step_of x; signed = held_of signed_held (signed_held no_signed) x }

@@ -2,14 +2,14 @@
 #![tactic(auto)]
 
 ghost use Rattle.std.specs.Prelude.{◌≡◌, ◌+◌, ◌*◌, ◌≤◌, length};
-ghost use Rattle.bincode.specs.Read.{refuse};
+ghost use Rattle.bincode.specs.Answer.{answer};
 ghost use Rattle.bincode.specs.Sizes.{base};
 ghost use Rattle.bincode.specs.Writing.{written, written_to};
 ghost use Rattle.change.specs.Change.{change_of, same_change};
-ghost use Rattle.votes.specs.VoteHead.{head_answer};
-ghost use Rattle.votes.specs.Votes.{vote_of, vote_held, no_vote, read_vote, vote_answer, vote_bytes, signed_of, signed_held, no_signed, read_signed_vote, signed_answer, signed_bytes};
+ghost use Rattle.votes.specs.VoteHead.{head_of};
+ghost use Rattle.votes.specs.Votes.{vote_of, vote_held, no_vote, read_vote, vote_bytes, signed_of, signed_held, no_signed, read_signed_vote, signed_bytes};
 
-use bincode::{ReadU32, ReadU64, Step};
+use bincode::Refusal;
 use change::{Change, ChangeKind};
 use pub_key_map::PubKeyMap;
 
@@ -65,76 +65,30 @@ impl SignedVote {
     }
 }
 
-#[derive(Clone, Copy)]
-pub struct ReadVote {
-    pub step: Step,
-    pub vote: Vote,
-}
-
-#[derive(Clone, Copy)]
-pub struct ReadSignedVote {
-    pub step: Step,
-    pub signed: SignedVote,
-}
-
-fn refused_vote(n: u8) -> ReadVote
-    ensures { result ≡ vote_answer (refuse n) }
+pub fn read_vote(s: &[u8], at: usize) -> Result<(Vote, usize), Refusal>
+    ensures { result ≡ answer vote_held (read_vote base s.now at) }
 {
-    ReadVote {
-        step: Step::Refused(n),
-        vote: Vote::empty(),
-    }
+    let (change, a) = change::read_change(s, at)?;
+    let Ok((era, b)) = bincode::read_u64(s, a) else {
+        return Err(Refusal::Malformed);
+    };
+    let Ok((num, c)) = bincode::read_u64(s, b) else {
+        return Err(Refusal::Malformed);
+    };
+    Ok((Vote { change, era, num }, c))
 }
 
-pub fn read_vote(s: &[u8], at: usize) -> ReadVote
-    ensures { result ≡ vote_answer (read_vote base s.now at) }
+pub fn read_signed_vote(s: &[u8], at: usize) -> Result<(SignedVote, usize), Refusal>
+    ensures { result ≡ answer signed_held (read_signed_vote base s.now at) }
 {
-    let r = change::read_change(s, at);
-    let step = r.step;
-    let change = r.change;
-    let Step::Next(a) = step else {
-        return refused_vote(step.number());
+    let (vote, a) = read_vote(s, at)?;
+    let Ok((voter, b)) = bincode::read_u32(s, a) else {
+        return Err(Refusal::Malformed);
     };
-    let ReadU64::Value(era, b) = bincode::read_u64(s, a) else {
-        return refused_vote(2);
+    let Ok((sig, c)) = bincode::read_u64(s, b) else {
+        return Err(Refusal::Malformed);
     };
-    let ReadU64::Value(num, c) = bincode::read_u64(s, b) else {
-        return refused_vote(2);
-    };
-    ReadVote {
-        step: Step::Next(c),
-        vote: Vote { change, era, num },
-    }
-}
-
-fn refused_signed(n: u8) -> ReadSignedVote
-    ensures { result ≡ signed_answer (refuse n) }
-{
-    ReadSignedVote {
-        step: Step::Refused(n),
-        signed: SignedVote::empty(),
-    }
-}
-
-pub fn read_signed_vote(s: &[u8], at: usize) -> ReadSignedVote
-    ensures { result ≡ signed_answer (read_signed_vote base s.now at) }
-{
-    let r = read_vote(s, at);
-    let step = r.step;
-    let vote = r.vote;
-    let Step::Next(a) = step else {
-        return refused_signed(step.number());
-    };
-    let ReadU32::Value(voter, b) = bincode::read_u32(s, a) else {
-        return refused_signed(2);
-    };
-    let ReadU64::Value(sig, c) = bincode::read_u64(s, b) else {
-        return refused_signed(2);
-    };
-    ReadSignedVote {
-        step: Step::Next(c),
-        signed: SignedVote { vote, voter, sig },
-    }
+    Ok((SignedVote { vote, voter, sig }, c))
 }
 
 // A signed vote without its change.
@@ -146,58 +100,34 @@ pub struct VoteHead {
     pub sig: u64,
 }
 
-#[derive(Clone, Copy)]
-pub struct ReadVoteHead {
-    pub step: Step,
-    pub head: VoteHead,
-}
-
-fn refused_head(n: u8) -> ReadVoteHead
-    ensures { result ≡ head_answer (refuse n) }
-{
-    ReadVoteHead {
-        step: Step::Refused(n),
-        head: VoteHead {
-            era: 0,
-            num: 0,
-            voter: 0,
-            sig: 0,
-        },
-    }
-}
-
 // The change is tested and not kept, so that no map is copied where the numbers alone are asked for.
-pub fn read_vote_head(s: &[u8], at: usize) -> ReadVoteHead
-    ensures { result ≡ head_answer (read_signed_vote base s.now at) }
+pub fn read_vote_head(s: &[u8], at: usize) -> Result<(VoteHead, usize), Refusal>
+    ensures { result ≡ answer head_of (read_signed_vote base s.now at) }
 {
-    let step = change::check_change(s, at);
-    let Step::Next(a) = step else {
-        return refused_head(step.number());
+    let a = change::check_change(s, at)?;
+    let Ok((era, b)) = bincode::read_u64(s, a) else {
+        return Err(Refusal::Malformed);
     };
-    let ReadU64::Value(era, b) = bincode::read_u64(s, a) else {
-        return refused_head(2);
+    let Ok((num, c)) = bincode::read_u64(s, b) else {
+        return Err(Refusal::Malformed);
     };
-    let ReadU64::Value(num, c) = bincode::read_u64(s, b) else {
-        return refused_head(2);
+    let Ok((voter, d)) = bincode::read_u32(s, c) else {
+        return Err(Refusal::Malformed);
     };
-    let ReadU32::Value(voter, d) = bincode::read_u32(s, c) else {
-        return refused_head(2);
+    let Ok((sig, e)) = bincode::read_u64(s, d) else {
+        return Err(Refusal::Malformed);
     };
-    let ReadU64::Value(sig, e) = bincode::read_u64(s, d) else {
-        return refused_head(2);
+    let head = VoteHead {
+        era,
+        num,
+        voter,
+        sig,
     };
-    ReadVoteHead {
-        step: Step::Next(e),
-        head: VoteHead {
-            era,
-            num,
-            voter,
-            sig,
-        },
-    }
+    Ok((head, e))
 }
 
 // How many bytes a vote takes.
+#[tactic(auto, using(crate::proofs::VoteLaws::length_vote))]
 pub fn vote_size(v: Vote) -> usize
     ensures { (result ≡ length (vote_bytes (vote_of v))) × (result ≤ 28 + 12 * base.nodes) }
 {
@@ -219,6 +149,7 @@ pub fn write_vote(buf: &mut [u8], at: usize, v: Vote) -> usize
     }
 }
 
+#[tactic(auto, using(crate::proofs::VoteLaws::length_signed))]
 pub fn signed_vote_size(x: SignedVote) -> usize
     ensures { (result ≡ length (signed_bytes (signed_of x))) × (result ≤ 40 + 12 * base.nodes) }
 {

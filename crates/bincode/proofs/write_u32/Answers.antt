@@ -1,16 +1,12 @@
-use native.Mathlib.Omega.{arith}
-use mathlib.Core.Path.{◌∙◌}
+use mathlib.Core.Path.{sym, ◌∙◌}
 use Rattle.bincode.proofs.WriteLaws.{number_no_room, number_has_room}
 use Rattle.bincode.proofs.write_u32.Goals as goal
 
-pub returns-then-buf-at : goal.returns-then-buf-at
-returns-then-buf-at c = number_no_room _ _ 4 _ (omega arith)
-
-pub returns-then-buf-at-lt4 : goal.returns-then-buf-at-lt4
-returns-then-buf-at-lt4 c = number_no_room _ _ 4 _ (omega arith)
+pub returns-then-not-room : goal.returns-then-not-room
+returns-then-not-room c = number_no_room _ _ 4 _ (sym c.room.ensures ∙ c.if-not-room.true)
 
 pub returns : goal.returns
 returns c =
     let a = c.args in
-    let h = number_has_room a.buf.now a.at 4 a.x (omega arith) in
-    (c.put.ensures ∙ h.0, h.1)
+    let h = number_has_room a.buf.now a.at 4 a.x (sym c.room.ensures ∙ c.if-not-room.false) in
+    ((rw c.from.ensures at c.put.ensures) ∙ h.0, h.1)

@@ -1,33 +1,34 @@
-use Rattle.std.proofs.Common.{rules}
 use mathlib.Core.Path.{refl, sym, ap, ◌∙◌}
-use native.Mathlib.Omega.{arith}
-use Rattle.lists.proofs.ViewLaws.{view_more}
+use mathlib.Core.List.{List}
+use lib.ListN.{take}
+use Rattle.lists.specs.Lists.{lookup}
 use Rattle.lists.proofs.SortedLaws.{lookup_hit, lookup_miss, lookup_end}
-use Rattle.votes.specs.Votes.{signed_of}
-use Rattle.signed_votes.specs.SignedVotes.{votes_of, voter_of}
-use Rattle.board.specs.Board.{change_by}
+use Rattle.votes.specs.declared.SignedVote.{SignedVote}
+use Rattle.signed_votes.specs.SignedVotes.{voter_in}
+use Rattle.signed_votes.proofs.VotesLaws.{next_one, live}
+use Rattle.board.proofs.BoardTurns.{held_change}
 use Rattle.board.proofs.change_of.Goals as goal
 
-pub loop-i-init : goal.loop-i-init
-loop-i-init c = (search rules, c.len-n.ensures.1, c.len-n.ensures.0, refl)
+pub loop-x-init : goal.loop-x-init
+loop-x-init c = refl
 
 pub returns-then-x-voter : goal.returns-then-x-voter
 returns-then-x-voter c =
-    let a = c.args in
-    let i = c.loop-i.i in
-    let v = c.loop-i.invariant in
-    sym (ap change_by (v.3 ∙ lookup_hit voter_of a.voter (votes_of a.votes) i _ (view_more signed_of a.votes.votes a.votes.count i (omega (arith, v.2, c.loop-i-test.true)) _) c.if-x-voter.true))
+    let t = c.args.votes in
+    let k = c.args.voter in
+    let xs = take c.len.result t.votes in
+    let hit = c.loop-x.invariant ∙ lookup_hit voter_in k xs c.loop-x.x-index _ (next_one xs c.loop-x.x-index _ c.loop-x-test.true) c.if-x-voter.true in
+    sym (held_change t k _ (ap (λ (ys : List SignedVote). lookup voter_in ys k) (sym (live t c.len.result c.len.ensures.0)) ∙ hit))
 
-pub loop-i-preserved : goal.loop-i-preserved
-loop-i-preserved c =
-    let a = c.args in
-    let i = c.loop-i.i in
-    let v = c.loop-i.invariant in
-    (search rules, v.1, v.2, v.3 ∙ lookup_miss voter_of a.voter (votes_of a.votes) i _ (view_more signed_of a.votes.votes a.votes.count i (omega (arith, v.2, c.loop-i-test.true)) _) c.if-x-voter.false)
+pub loop-x-preserved : goal.loop-x-preserved
+loop-x-preserved c =
+    let xs = take c.len.result c.args.votes.votes in
+    c.loop-x.invariant ∙ lookup_miss voter_in c.args.voter xs c.loop-x.x-index _ (next_one xs c.loop-x.x-index _ c.loop-x-test.true) c.if-x-voter.false
 
 pub returns : goal.returns
 returns c =
-    let a = c.args in
-    let i = c.loop-i.i in
-    let v = c.loop-i.invariant in
-    rw c.empty.ensures (sym (ap change_by (v.3 ∙ lookup_end voter_of a.voter (votes_of a.votes) i (omega (arith, v.2, c.loop-i-test.false)))))
+    let t = c.args.votes in
+    let k = c.args.voter in
+    let xs = take c.len.result t.votes in
+    let none = c.loop-x.invariant ∙ lookup_end voter_in k xs c.loop-x.x-index c.loop-x-test.false in
+    rw c.empty.ensures (sym (held_change t k _ (ap (λ (ys : List SignedVote). lookup voter_in ys k) (sym (live t c.len.result c.len.ensures.0)) ∙ none)))

@@ -1,27 +1,22 @@
-use mathlib.Core.Path.{◌≡◌, sym, ap, ◌∙◌}
-use Rattle.bincode.specs.Read.{value}
+use mathlib.Core.Path.{sym, ap, ◌∙◌}
 use Rattle.bincode.specs.Numbers.{fixed}
-use Rattle.bincode.specs.Sizes.{base}
-use Rattle.bincode.proofs.ReadLaws.{step_next, step_refused, whole_refused, whole_left, whole_read}
-use Rattle.change.specs.declared.ReadChange.{ReadChange}
-use Rattle.change.specs.Change.{ChangeOf, read_change, change_answer}
+use Rattle.bincode.specs.Answer.{answer}
+use Rattle.bincode.proofs.ReadLaws.{answer_ok, whole_refused, whole_left, whole_read}
+use Rattle.bincode.proofs.AnswerLaws.{answer_exit}
+use Rattle.change.specs.Change.{change_held, read_change}
 use Rattle.change.proofs.read_whole_change.Goals as goal
 
-pub returns-in_default : goal.returns-in_default
-returns-in_default c =
-    let s = c.args.s.now in
-    let e = c.read_change-r.ensures in
-    let x = step_refused (read_change fixed base s 0) _ (sym (ap (λ (r : ReadChange). r.step) e) ∙ c.in_default.is) in
-    e ∙ ap change_answer (x ∙ sym (whole_refused (read_change fixed base s) s _ x))
+pub returns-in_err-change : goal.returns-in_err-change
+returns-in_err-change c =
+    let p = answer_exit change_held _ _ (sym c.read_change.ensures ∙ c.in_err-change.was) _ c.from_residual.ensures.1 in
+    p.2 ∙ ap (answer change_held) (sym (whole_refused (read_change fixed _ c.args.s.now) _ _ p.1))
 
 pub returns-then-c-s : goal.returns-then-c-s
 returns-then-c-s c =
-    let change_read : (x : ChangeOf) × (read_change fixed base c.args.s.now 0 ≡ value x c.in-Next.c) = step_next (read_change fixed base c.args.s.now 0) _ (sym (ap (λ (r : ReadChange). r.step) c.read_change-r.ensures) ∙ c.in-Next.is) in
-    let x = change_read in
-    c.refused_change.ensures ∙ ap change_answer (sym (whole_left (read_change fixed base c.args.s.now) _ _ _ x.1 c.if-c-s.true))
+    let p = answer_ok change_held _ _ _ (sym c.read_change.ensures ∙ c.in_ok-change.was) in
+    ap (answer change_held) (sym (whole_left (read_change fixed _ c.args.s.now) _ _ _ p.1 c.if-c-s.true))
 
 pub returns : goal.returns
 returns c =
-    let change_read : (x : ChangeOf) × (read_change fixed base c.args.s.now 0 ≡ value x c.in-Next.c) = step_next (read_change fixed base c.args.s.now 0) _ (sym (ap (λ (r : ReadChange). r.step) c.read_change-r.ensures) ∙ c.in-Next.is) in
-    let x = change_read in
-    c.read_change-r.ensures ∙ ap change_answer (x.1 ∙ sym (whole_read (read_change fixed base c.args.s.now) _ _ _ x.1 c.if-c-s.false))
+    let p = answer_ok change_held _ _ _ (sym c.read_change.ensures ∙ c.in_ok-change.was) in
+    sym c.in_ok-change.was ∙ c.read_change.ensures ∙ ap (answer change_held) (p.1 ∙ sym (whole_read (read_change fixed _ c.args.s.now) _ _ _ p.1 c.if-c-s.false))

@@ -1,4 +1,4 @@
-use mathlib.Core.Path.{refl, ap, ◌∙◌}
+use mathlib.Core.Path.{refl, ap}
 use native.Mathlib.Omega.{arith}
 use lib.ListN.{length, get_or}
 use Rattle.pub_key_map.specs.PubKeyMap.{nodes_of}
@@ -14,7 +14,7 @@ use Rattle.commit.proofs.commit_batch.Goals.{else-e-gt0, else-e-gt0-2, then-e-gt
 pub loop-i-init : goal.loop-i-init
 loop-i-init c =
     let a = c.args in
-    (omega arith, omega arith, (refl, refl, refl), (λ z. refl), batch_starts _ _ _ _ _ a.index _ a.state)
+    (omega arith, omega arith, (λ z. refl), batch_starts _ _ _ _ _ a.index _ a.state)
 
 pub commit_votes-v-requires : goal.commit_votes-v-requires
 commit_votes-v-requires c = c.loop-i.invariant.0
@@ -28,12 +28,6 @@ commit_messages-m-requires c =
       ],
       v.1,
     )
-
-pub overflow_add-i : goal.overflow_add-i
-overflow_add-i c = omega (arith, c.loop-i-test.true, c.len-n.ensures.1)
-
-pub loop-i-smaller : goal.loop-i-smaller
-loop-i-smaller c = omega (arith, c.loop-i-test.true)
 
 pub loop-i-preserved : goal.loop-i-preserved
 loop-i-preserved c =
@@ -63,9 +57,8 @@ loop-i-preserved c =
     ] in (
       handled.0,
       handled.1,
-      (handled.2 ∙ voted.1 ∙ v.2.0, handled.3 ∙ voted.2 ∙ v.2.1, handled.4 ∙ v.2.2),
-      (λ z. absurd (let y : ⊥ = omega (arith, b, z) in y)),
-      batch_turn s a.era ns a.verdicts.now a.tally a.index _ _ l.i d ls v.4 (λ i. (c.type_inv.s i).fits) (omega (arith, b, c.len-n.ensures.0)) d' ls' q refl voted handled,
+      (λ z. absurd (let y : ⊥ = omega (arith, b, c.len-n.ensures.0, ap length z) in y)),
+      batch_turn s a.era ns a.verdicts.now a.tally a.index _ _ l.i d ls v.3 (λ i. (c.type_inv.s i).fits) (omega (arith, b, c.len-n.ensures.0)) d' ls' q refl voted handled,
     )
 
 pub returns : goal.returns
@@ -74,8 +67,8 @@ returns c =
     let l = c.loop-i in
     let v = l.invariant in
     let n = c.len-n.ensures.0 in (
-      batch_ends a.s.now a.era (nodes_of a.map) a.verdicts.now a.tally a.index _ (running.state_of a.state) l.i (record { tally = l.done; state = l.kg; judged = l.judged; faults = l.faults; due = l.due }) _ v.4 (omega (arith, c.loop-i-test.false, n)),
-      (λ e. v.3 (n ∙ ap length e)),
+      batch_ends a.s.now a.era (nodes_of a.map) a.verdicts.now a.tally a.index _ (running.state_of a.state) l.i (record { tally = l.done; state = l.kg; judged = l.judged; faults = l.faults; due = l.due }) _ v.3 (omega (arith, c.loop-i-test.false, n)),
+      v.2,
       v.0,
       v.1,
     )

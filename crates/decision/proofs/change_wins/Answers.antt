@@ -8,14 +8,10 @@ use Rattle.decision.proofs.change_wins.Goals as goal
 
 pub returns-in-NodeChange : goal.returns-in-NodeChange
 returns-in-NodeChange c =
-    let a = c.args in (
-      λ st l. c.map_wins.ensures.0 st l ∙ ap (λ (w : ChangeOf). elected_by base a.era (parts_of a.params a.counter a.state st l) (found w)) (sym (change_map a.change c.in-NodeChange.is)),
-      c.map_wins.ensures.1,
-    )
+    let a = c.args in
+    λ st l. c.map_wins.ensures st l ∙ ap (λ (w : ChangeOf). elected_by base a.era (parts_of a.params a.counter a.state st l) (found w)) (sym (change_map a.change c.in-NodeChange.is))
 
 pub returns-in-EncryptionSchedule : goal.returns-in-EncryptionSchedule
 returns-in-EncryptionSchedule c =
-    let a = c.args in (
-      λ st l. c.schedule_wins.ensures.0 st l ∙ ap (λ (w : ChangeOf). elected_by base a.era (parts_of a.params a.counter a.state st l) (found w)) (sym (change_schedule a.change _ c.in-EncryptionSchedule.is)),
-      c.schedule_wins.ensures.1,
-    )
+    let a = c.args in
+    λ st l. c.schedule_wins.ensures st l ∙ ap (λ (w : ChangeOf). elected_by base a.era (parts_of a.params a.counter a.state st l) (found w)) (sym (change_schedule a.change _ c.in-EncryptionSchedule.is))

@@ -1,4 +1,3 @@
-use Prim.Native.Nat.{◌-◌, ◌≤◌}
 use mathlib.Core.Path.{◌≡◌}
 use lib.ListN.{length}
 use Rattle.bincode.specs.Sizes.{base}
@@ -6,7 +5,4 @@ use Rattle.decision.specs.Decision.{cleared_held}
 use Rattle.decision.proofs.clear.Given as goal
 
 abbrev pub invariant-loop-i : goal.invariant-loop-i
-invariant-loop-i l = (cleared_held l.g l.i l.to ≡ cleared_held l.initial.g l.from l.to) × (length l.g.proposals ≡ base.nodes) × (l.i ≤ l.to)
-
-abbrev pub decreases-loop-i : goal.decreases-loop-i
-decreases-loop-i l = l.to - l.i
+invariant-loop-i l = (cleared_held l.g l.i l.to ≡ cleared_held l.initial.g l.from l.to) × (length l.g.proposals ≡ base.nodes)

@@ -10,5 +10,5 @@ use Rattle.decision.proofs.is_candidate.Goals as goal
 pub returns-then-state : goal.returns-then-state
 returns-then-state c = c.same.ensures ∙ ap (λ (g : Found KeyGenStateOf). is_candidate (candidate_nodes g) (nodes_of c.args.map)) (sym (cond_yes _ _ c.if-state.true))
 
-pub returns : goal.returns
-returns c = ap (λ (g : Found KeyGenStateOf). is_candidate (candidate_nodes g) (nodes_of c.args.map)) (sym (cond_no _ _ c.if-state.false))
+pub returns-else-state : goal.returns-else-state
+returns-else-state c = c.if-state.false ∙ ap (λ (g : Found KeyGenStateOf). is_candidate (candidate_nodes g) (nodes_of c.args.map)) (sym (cond_no _ _ c.if-state.false))

@@ -1,35 +1,39 @@
-use mathlib.Core.Bool.{Bool}
 use mathlib.Core.Path.{◌≡◌, refl, sym, ap, ◌∙◌, subst}
 use lib.ListN.{length}
+use Rattle.std.specs.declared.option.Option.{Option}
+use Rattle.std.specs.declared.result.Result.{Result}
+use Rattle.std.specs.declared.result.Result.TheVariants.{Ok}
 use Rattle.bincode.specs.Sizes.{base}
+use Rattle.bincode.specs.declared.Refusal.{Refusal}
+use Rattle.bincode.proofs.ReadLaws.{cross}
+use Rattle.key_gen_message.specs.declared.SignedKeyGenMsg.{SignedKeyGenMsg}
 use Rattle.key_gen_message.specs.KeyGenMessage.{signed_of}
 use Rattle.message_store.specs.MessageStore.{store_of}
-use Rattle.dynamic_honey_badger.specs.declared.Handling.{Handling}
-use Rattle.dynamic_honey_badger.specs.Received.{HandledOf, handled_as, stored_in, returned, said_handling}
-use Rattle.dynamic_honey_badger.specs.State.{with_store, state_of}
-use Rattle.dynamic_honey_badger.proofs.ReceivedLaws.{quiet_not_refused}
+use Rattle.dynamic_honey_badger.specs.Received.{stored_in, returned}
+use Rattle.dynamic_honey_badger.specs.State.{state_of}
 use Rattle.dynamic_honey_badger.proofs.JudgedLaws.{full_by_count, push_stored}
 use Rattle.due_item.specs.Fate.{FatedAs}
 use Rattle.due_item.proofs.handle_due_item.Goals as goal
 
-pub returns-then-f : goal.returns-then-f
-returns-then-f c =
-    let places : length c.args.state.store.messages ≡ base.store = c.well_formed.0.1.1.1.1.1.0.1.1.1.0.1.0.1 in
-    let decided : (b : Bool) → c.fate-f.result.stored ≡ b → FatedAs base (state_of c.args.state) (returned base (state_of c.args.state) c.args.message.now) b c.fate-f.result.outcome c.fate-f.result.m =
-    λ b e. let s = state_of c.args.state in
-    let f = c.fate-f.result in
-    subst (λ (x : Bool). FatedAs base s (returned base s c.args.message.now) x f.outcome f.m) e (c.fate-f.ensures s refl refl refl (full_by_count c.args.state.store (places))) in
+pub returns-in-Ok-Some : goal.returns-in-Ok-Some
+returns-in-Ok-Some c =
     let d = c.args.state in
-    let f = c.fate-f.result in
+    let s = state_of d in
+    let places : length d.store.messages ≡ base.store = c.well_formed.0.1.1.1.1.1.0.1.1.1.0.1.0.1 in
+    let h = subst (λ (f : Result (Option SignedKeyGenMsg) Refusal). FatedAs base s (returned base s c.args.message.now) f) (c.in-Ok-Some.is ∙ ap Ok c.in-Ok-Some.field-0-is) (c.fate.ensures s refl refl refl (full_by_count d.store places)) in
     let x = c.push-p in
-    let h = decided _ c.if-f.true in
-    (ap {B = HandledOf} (λ (o : Handling). handled_as (with_store (state_of d) (store_of x.result.store)) (said_handling o)) h.0 ∙ sym (h.2 ∙ ap (stored_in (state_of d) (state_of d)) (push_stored base (store_of d.store) (signed_of f.m) h.1 x.result.outcome x.result.store x.ensures.0)), λ n e. absurd (quiet_not_refused n (sym h.0 ∙ e)))
+    (sym (h.1 ∙ ap (stored_in s s) (push_stored base (store_of d.store) (signed_of c.in-Ok-Some.m) h.0 x.result.outcome x.result.store x.ensures.0)), λ n e. absurd (cross e))
 
-pub returns-else-f : goal.returns-else-f
-returns-else-f c =
-    let places : length c.args.state.store.messages ≡ base.store = c.well_formed.0.1.1.1.1.1.0.1.1.1.0.1.0.1 in
-    let decided : (b : Bool) → c.fate-f.result.stored ≡ b → FatedAs base (state_of c.args.state) (returned base (state_of c.args.state) c.args.message.now) b c.fate-f.result.outcome c.fate-f.result.m =
-    λ b e. let s = state_of c.args.state in
-    let f = c.fate-f.result in
-    subst (λ (x : Bool). FatedAs base s (returned base s c.args.message.now) x f.outcome f.m) e (c.fate-f.ensures s refl refl refl (full_by_count c.args.state.store (places))) in
-    (sym (decided _ c.if-f.false), λ n e. refl)
+pub returns-in-Ok-None : goal.returns-in-Ok-None
+returns-in-Ok-None c =
+    let d = c.args.state in
+    let s = state_of d in
+    let places : length d.store.messages ≡ base.store = c.well_formed.0.1.1.1.1.1.0.1.1.1.0.1.0.1 in
+    (sym (subst (λ (f : Result (Option SignedKeyGenMsg) Refusal). FatedAs base s (returned base s c.args.message.now) f) (c.in-Ok-None.is ∙ ap Ok c.in-Ok-None.field-0-is) (c.fate.ensures s refl refl refl (full_by_count d.store places))), λ n e. refl)
+
+pub returns-in-Err : goal.returns-in-Err
+returns-in-Err c =
+    let d = c.args.state in
+    let s = state_of d in
+    let places : length d.store.messages ≡ base.store = c.well_formed.0.1.1.1.1.1.0.1.1.1.0.1.0.1 in
+    (sym (subst (λ (f : Result (Option SignedKeyGenMsg) Refusal). FatedAs base s (returned base s c.args.message.now) f) c.in-Err.is (c.fate.ensures s refl refl refl (full_by_count d.store places))), λ n e. refl)

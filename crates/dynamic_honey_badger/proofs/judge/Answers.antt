@@ -1,50 +1,29 @@
-use mathlib.Core.Path.{sym, ap, ◌∙◌, subst}
-use native.Mathlib.Omega.{arith}
+use mathlib.Core.Path.{sym, ◌∙◌, subst}
+use lib.Dec.{lit<}
+use Rattle.bincode.specs.Read.{whole}
 use Rattle.bincode.specs.Sizes.{base}
-use Rattle.bincode.proofs.ReadLaws.{held_next, number_refused}
-use Rattle.message.specs.declared.MessageKind.{MessageKind}
-use Rattle.message.specs.declared.ReadMessage.{ReadMessage}
-use Rattle.message.specs.Message.{content_of, content_of_kind, content_held, no_content}
-use Rattle.dynamic_honey_badger.specs.Received.{HandledOf, received_now, received_read}
+use Rattle.bincode.proofs.CauseLaws.{whole_causes}
+use Rattle.bincode.proofs.ReadLaws.{answer_ok}
+use Rattle.message.specs.Message.{content_held, read_message}
+use Rattle.message.proofs.ContentCauses.{content_causes}
+use Rattle.message.proofs.ContentCodes.{content_codes}
+use Rattle.joining.proofs.RowLaws.{refused_by}
+use Rattle.dynamic_honey_badger.specs.Received.{HandledOf, received}
 use Rattle.dynamic_honey_badger.specs.Parts.{Judges}
-use Rattle.dynamic_honey_badger.proofs.ReceivedLaws.{content_later, content_earlier, content_now}
-use Rattle.dynamic_honey_badger.proofs.JudgedLaws.{read_content}
+use Rattle.dynamic_honey_badger.proofs.ReceivedLaws.{message_refused, message_read}
 use Rattle.dynamic_honey_badger.proofs.judge.Goals as goal
 
-pub returns-in_default : goal.returns-in_default
-returns-in_default c =
+pub returns-in-Ok : goal.returns-in-Ok
+returns-in-Ok c =
     let a = c.args in
-    λ s x r e p.
-    let n = number_refused x _ (ap (λ (r : ReadMessage). r.step) r) _ _ c.in_default.is c.number.ensures in
-    subst (Judges base s a.sender a.r.message (received_read base s a.sender x)) (sym c.judged_as.ensures) (ap (received_read base s a.sender) n)
+    let b = a.bytes.now in
+    let x = answer_ok content_held (whole (read_message base b) b) _ _ (sym c.read_whole_message.ensures ∙ c.in-Ok.is) in
+    λ s e p. subst (λ (h : HandledOf). Judges base s h c.judge_content.result) (sym (message_read base s a.sender b x.0 _ c.in-Ok.m x.1 x.2)) (c.judge_content.ensures s e p)
 
-pub returns-then-era-sent : goal.returns-then-era-sent
-returns-then-era-sent c =
+pub returns-in-Err : goal.returns-in-Err
+returns-in-Err c =
     let a = c.args in
-    λ s x r e p.
-    let y = held_next x _ (ap (λ (r : ReadMessage). r.step) r) content_held (content_held no_content) _ (ap (λ (r : ReadMessage). r.message) r) _ c.in-Next.is in
-    subst (Judges base s a.sender a.r.message (received_read base s a.sender x)) (sym c.judged_as-then-era-sent.ensures) (read_content base s a.sender x y.0 _ a.r.message y.1 y.2 ∙ content_later base s a.sender (content_of a.r.message) _ c.message_era-sent.ensures (omega (arith, e, c.if-era-sent.true)))
-
-pub returns-then-sent-era : goal.returns-then-sent-era
-returns-then-sent-era c =
-    let a = c.args in
-    λ s x r e p.
-    let y = held_next x _ (ap (λ (r : ReadMessage). r.step) r) content_held (content_held no_content) _ (ap (λ (r : ReadMessage). r.message) r) _ c.in-Next.is in
-    subst (Judges base s a.sender a.r.message (received_read base s a.sender x)) (sym c.judged_as-then-sent-era.ensures) (read_content base s a.sender x y.0 _ a.r.message y.1 y.2 ∙ content_earlier base s a.sender (content_of a.r.message) _ c.message_era-sent.ensures (omega (arith, e, c.if-era-sent.false)) (omega (arith, e, c.if-sent-era.true)))
-
-pub returns-in-KeyGen : goal.returns-in-KeyGen
-returns-in-KeyGen c =
-    let a = c.args in
-    λ s x r e p.
-    let y = held_next x _ (ap (λ (r : ReadMessage). r.step) r) content_held (content_held no_content) _ (ap (λ (r : ReadMessage). r.message) r) _ c.in-Next.is in
-    let k = ap (λ (k : MessageKind). received_now base s a.sender (content_of_kind k a.r.message)) c.in-KeyGen.is in
-    let h = read_content base s a.sender x y.0 _ a.r.message y.1 y.2 ∙ content_now base s a.sender (content_of a.r.message) _ c.message_era-sent.ensures (omega (arith, e, c.if-era-sent.false)) (omega (arith, e, c.if-sent-era.false)) ∙ k in
-    subst (λ (h : HandledOf). Judges base s a.sender a.r.message h c.judge_key.result) (sym h) (c.judge_key.ensures s p)
-
-pub returns-in-SignedVote : goal.returns-in-SignedVote
-returns-in-SignedVote c =
-    let a = c.args in
-    λ s x r e p.
-    let y = held_next x _ (ap (λ (r : ReadMessage). r.step) r) content_held (content_held no_content) _ (ap (λ (r : ReadMessage). r.message) r) _ c.in-Next.is in
-    let k = ap (λ (k : MessageKind). received_now base s a.sender (content_of_kind k a.r.message)) c.in-SignedVote.is in
-    subst (Judges base s a.sender a.r.message (received_read base s a.sender x)) (sym c.judged_as-in-SignedVote.ensures) (read_content base s a.sender x y.0 _ a.r.message y.1 y.2 ∙ content_now base s a.sender (content_of a.r.message) _ c.message_era-sent.ensures (omega (arith, e, c.if-era-sent.false)) (omega (arith, e, c.if-sent-era.false)) ∙ k)
+    let b = a.bytes.now in
+    let causes = whole_causes (content_codes b base (lit< tt) (lit< tt)) (content_causes b base (lit< tt) (lit< tt)) in
+    let r = refused_by b (whole (read_message base b) b) causes (λ i. (c.type_inv.bytes i).fits) content_held _ c.read_whole_message.ensures _ c.in-Err.is in
+    λ s e p. subst (Judges base s (received base s a.sender b)) (sym c.judged_as.ensures) (message_refused base s a.sender b _ r)

@@ -7,18 +7,18 @@ use Rattle.change.specs.Change.{ChangeOf, node_change}
 use Rattle.node_change.specs.NodeChange.{row13, with_node}
 use Rattle.dynamic_honey_badger.specs.OwnVotes.{vote_for}
 use Rattle.dynamic_honey_badger.proofs.OwnVotesLaws.{add_key, add_nothing, add_full, add_voted}
-use Rattle.dynamic_honey_badger.proofs.PartsLaws.{validator, wanted_cast, wanted_nothing, wanted_refused}
+use Rattle.dynamic_honey_badger.proofs.PartsLaws.{validator, wanted_cast}
 use Rattle.dynamic_honey_badger.proofs.wanted_with.Goals as goal
 
 pub returns-then-key-eq0 : goal.returns-then-key-eq0
 returns-then-key-eq0 c =
     let a = c.args in
-    λ s m i. wanted_refused base s _ 2 c.no_change.ensures ∙ sym (add_key base s a.id a.key c.if-key-eq0.true)
+    λ s m i. sym (add_key base s a.id a.key c.if-key-eq0.true)
 
 pub returns-then-is_full_for : goal.returns-then-is_full_for
 returns-then-is_full_for c =
     let a = c.args in
-    λ s m i. wanted_refused base s _ 13 c.no_change-then-is_full_for.ensures ∙ sym (add_full base s a.id a.key c.if-key-eq0.false (validator s _ _ _ m i (sym c.is_member.ensures ∙ c.if-is_member.true)) (ap (λ (ns : List Node). row13 base ns a.id) m ∙ sym c.is_full_for.ensures ∙ c.if-is_full_for.true))
+    λ s m i. sym (add_full base s a.id a.key c.if-key-eq0.false (validator s _ _ _ m i (sym c.is_member.ensures ∙ c.if-is_member.true)) (ap (λ (ns : List Node). row13 base ns a.id) m ∙ sym c.is_full_for.ensures ∙ c.if-is_full_for.true))
 
 pub returns-then-is_member : goal.returns-then-is_member
 returns-then-is_member c =
@@ -29,4 +29,4 @@ returns-then-is_member c =
 pub returns : goal.returns
 returns c =
     let a = c.args in
-    λ s m i. wanted_nothing base s _ c.no_change-2.ensures ∙ sym (add_nothing base s a.id a.key c.if-key-eq0.false (validator s _ _ _ m i (sym c.is_member.ensures ∙ c.if-is_member.false)))
+    λ s m i. sym (add_nothing base s a.id a.key c.if-key-eq0.false (validator s _ _ _ m i (sym c.is_member.ensures ∙ c.if-is_member.false)))

@@ -6,7 +6,7 @@ use Rattle.change.specs.Change.{ChangeOf, node_change}
 use Rattle.node_change.specs.NodeChange.{without_node}
 use Rattle.dynamic_honey_badger.specs.OwnVotes.{vote_for, vote_to_remove}
 use Rattle.dynamic_honey_badger.proofs.OwnVotesLaws.{vote_nothing}
-use Rattle.dynamic_honey_badger.proofs.PartsLaws.{validator, wanted_cast, wanted_nothing}
+use Rattle.dynamic_honey_badger.proofs.PartsLaws.{validator, wanted_cast}
 use Rattle.dynamic_honey_badger.proofs.wanted_without.Goals as goal
 
 pub returns-then-is_member : goal.returns-then-is_member
@@ -19,4 +19,4 @@ returns-then-is_member c =
 pub returns : goal.returns
 unfolding vote_to_remove
 returns c =
-    λ s m i. wanted_nothing base s _ c.no_change.ensures ∙ sym (vote_nothing base s _ (validator s _ _ _ m i (sym c.is_member.ensures ∙ c.if-is_member.false)))
+    λ s m i. sym (vote_nothing base s _ (validator s _ _ _ m i (sym c.is_member.ensures ∙ c.if-is_member.false)))

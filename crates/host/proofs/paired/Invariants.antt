@@ -1,4 +1,3 @@
-use Prim.Native.Nat.{◌≤◌, ◌-◌}
 use mathlib.Core.Path.{◌≡◌}
 use lib.ListN.{length}
 use Rattle.bincode.specs.Sizes.{base}
@@ -6,7 +5,4 @@ use Rattle.host.proofs.PairLaws.{PairedTo}
 use Rattle.host.proofs.paired.Given as goal
 
 abbrev pub invariant-loop-i : goal.invariant-loop-i
-invariant-loop-i l = PairedTo l.ids l.kinds l.i l.items × (l.i ≤ l.n) × (length l.items ≡ base.faults)
-
-abbrev pub decreases-loop-i : goal.decreases-loop-i
-decreases-loop-i l = l.n - l.i
+invariant-loop-i l = PairedTo l.ids l.kinds l.i l.items × (length l.items ≡ base.faults)

@@ -26,4 +26,4 @@ returns c =
     let zeros : List ℕ = replicate base.faults 0 in
     let within : k.result ≤ length zeros = omega (arith, k.ensures, shorter_le a.fault_places base.faults, length-replicate {A = ℕ} base.faults 0) in
     faults_done a.state a.batch_era a.inner a.batch.now a.verdicts.now k.result a.fault_places zeros zeros (dues a.due_kinds.now a.due_indices.now a.due_eras.now) (record { processed = r.result; faults = c.paired-faults.result }) _ _ (dues _ _ _)
-    k.ensures within within r.ensures c.paired-faults.ensures
+    k.ensures within within r.ensures c.fault_count-n.result c.fault_count-n.ensures c.paired-faults.ensures

@@ -1,22 +1,20 @@
-use mathlib.Core.Path.{ap}
-use native.Mathlib.Omega.{arith}
+use mathlib.Core.Path.{◌∙◌}
 use Rattle.bincode.specs.Sizes.{base}
+use Rattle.bincode.proofs.AnswerLaws.{passed_on}
 use Rattle.key_gen_message.specs.KeyGenMessage.{read_signed_key_gen_msg}
-use Rattle.key_gen_message.specs.declared.ReadHead.{ReadHead}
+use Rattle.key_gen_message.specs.Head.{head_of}
 use Rattle.internal_contrib.proofs.CountLaws.{pass_start, pass_more, pass_refused, pass_done}
 use Rattle.internal_contrib.proofs.check_messages.Goals as goal
 
-pub loop-i-init : goal.loop-i-init
-loop-i-init c = pass_start _ _ _
+pub loop-init : goal.loop-init
+loop-init c = pass_start _ _ _
 
-pub returns-in_default : goal.returns-in_default
-returns-in_default c = pass_refused (read_signed_key_gen_msg base _) _ _ _ _ c.loop-i.invariant c.loop-i-test.true _ (ap (λ (r : ReadHead). r.step) c.read_head-r.ensures) _ c.in_default.is
+pub returns-in_err-next : goal.returns-in_err-next
+returns-in_err-next c =
+    passed_on _ _ c.from_residual.ensures.1 ∙ pass_refused (read_signed_key_gen_msg base _) _ _ _ _ c.loop.invariant c.loop-test.true head_of _ c.read_head.ensures _ c.in_err-next.was
 
-pub loop-i-smaller : goal.loop-i-smaller
-loop-i-smaller c = omega (arith, c.loop-i-test.true)
-
-pub loop-i-preserved : goal.loop-i-preserved
-loop-i-preserved c = pass_more (read_signed_key_gen_msg base _) _ _ _ _ c.loop-i.invariant c.loop-i-test.true _ (ap (λ (r : ReadHead). r.step) c.read_head-r.ensures) _ c.in-Next.is
+pub loop-preserved : goal.loop-preserved
+loop-preserved c = pass_more (read_signed_key_gen_msg base _) _ _ _ _ c.loop.invariant c.loop-test.true head_of _ c.read_head.ensures _ _ c.in_ok-next.was
 
 pub returns : goal.returns
-returns c = pass_done _ _ _ _ _ c.loop-i.invariant c.loop-i-test.false
+returns c = pass_done _ _ _ _ _ c.loop.invariant c.loop-test.false

@@ -1,5 +1,6 @@
-use mathlib.Core.Path.{ap}
+use mathlib.Core.Path.{ap, ◌∙◌}
 use mathlib.Core.Bool.{not}
+use Rattle.honey_badger.proofs.ScheduleLaws.{schedule_eq}
 use Rattle.joining.specs.Starting.{join_row10}
 use Rattle.joining.proofs.has_other_change.Goals as goal
 
@@ -17,4 +18,4 @@ returns-in-NodeChange c = rw (c.in-Complete.is, c.in-NodeChange.is) (ap not c.sa
 
 pub returns-in-EncryptionSchedule : goal.returns-in-EncryptionSchedule
 unfolding join_row10
-returns-in-EncryptionSchedule c = rw (c.in-Complete.is, c.in-EncryptionSchedule.is) (ap not c.same-in-EncryptionSchedule.ensures)
+returns-in-EncryptionSchedule c = rw (c.in-Complete.is, c.in-EncryptionSchedule.is) (c.ne.ensures ∙ ap not (schedule_eq _ _))

@@ -2,9 +2,6 @@ use native.Mathlib.Omega.{arith}
 use Rattle.key_gen_message.proofs.MessageLaws.{handles_in_lem, length_message}
 use Rattle.key_gen_message.proofs.message_size.Goals as goal
 
-pub overflow_add-result : goal.overflow_add-result
-overflow_add-result c = omega (arith, c.handles_size.ensures.1)
-
 pub returns : goal.returns
 returns c =
     let h = handles_in_lem c.args.m.kind c.args.m.handles in

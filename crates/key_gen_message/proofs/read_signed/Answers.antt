@@ -1,55 +1,43 @@
-use mathlib.Core.Path.{◌≡◌, sym, ap, ◌∙◌}
-use Rattle.bincode.specs.Read.{value}
-use Rattle.bincode.specs.Numbers.{read_num}
+use Prim.Native.Nat.{ℕ}
+use mathlib.Core.Path.{sym, ap, ◌∙◌}
+use Rattle.std.proofs.Common.{Ok}
+use Rattle.std.proofs.lemmas.Result.{err_from_is_err_and}
+use Rattle.std.specs.declared.result.Result.{Result}
 use Rattle.bincode.specs.Sizes.{base}
-use Rattle.bincode.specs.Answer.{said32, said64}
-use Rattle.bincode.specs.declared.Step.TheVariants.{Next}
-use Rattle.bincode.proofs.NumberLaws.{read_refused}
+use Rattle.bincode.specs.declared.Refusal.{Refusal}
+use Rattle.bincode.proofs.ReadLaws.{answer_ok, err_passed}
+use Rattle.bincode.proofs.AnswerLaws.{num_read, num_cut}
+use Rattle.key_gen_message.specs.declared.SignedKeyGenMsg.{SignedKeyGenMsg}
 use Rattle.key_gen_message.specs.declared.KeyGenMessage.{KeyGenMessage}
-use Rattle.key_gen_message.specs.declared.ReadMessage.{ReadMessage}
-use Rattle.key_gen_message.specs.declared.ReadSigned.{ReadSigned}
-use Rattle.key_gen_message.specs.KeyGenMessage.{KeyGenMessageOf, no_message, message_held, read_key_gen_message, read_signed_key_gen_msg}
-use Rattle.bincode.proofs.ReadLaws.{held_next, number_refused}
+use Rattle.key_gen_message.specs.KeyGenMessage.{message_held, signed_held, read_key_gen_message, read_signed_key_gen_msg}
 use Rattle.key_gen_message.proofs.read_signed.Goals as goal
 
 pub returns-in_default : goal.returns-in_default
 unfolding read_signed_key_gen_msg
-returns-in_default c = rw (read_refused _ _ _ _ (sym c.read_u64.ensures ∙ ap said64 c.in_default.is)) c.refused_signed.ensures
+returns-in_default c = rw (num_cut 8 _ _ c.read_u64.ensures c.in_default.is)
 
 pub returns-in_default-read_u32 : goal.returns-in_default-read_u32
 unfolding read_signed_key_gen_msg
-returns-in_default-read_u32 c =
-    let era_read : read_num 8 c.args.s.now c.args.at ≡ value c.in-Value.era c.in-Value.a = sym c.read_u64.ensures ∙ ap said64 c.in-Value.is in
-    rw (era_read, read_refused _ _ _ _ (sym c.read_u32.ensures ∙ ap said32 c.in_default-read_u32.is)) c.refused_signed-in_default-read_u32.ensures
+returns-in_default-read_u32 c = rw (num_read 8 _ _ c.read_u64.ensures c.in-Ok.is, num_cut 4 _ _ c.read_u32.ensures c.in_default-read_u32.is)
 
-pub returns-in_default-step : goal.returns-in_default-step
+pub returns-in_err-message : goal.returns-in_err-message
 unfolding read_signed_key_gen_msg
-returns-in_default-step c =
-    let era_read : read_num 8 c.args.s.now c.args.at ≡ value c.in-Value.era c.in-Value.a = sym c.read_u64.ensures ∙ ap said64 c.in-Value.is in
-    let id_read : read_num 4 c.args.s.now c.in-Value.a ≡ value c.in-Value-read_u32.id c.in-Value-read_u32.b = sym c.read_u32.ensures ∙ ap said32 c.in-Value-read_u32.is in
-    let e = c.read_message-r.ensures in
-    let x = number_refused (read_key_gen_message base c.args.s.now c.in-Value-read_u32.b) _ (ap (λ (r : ReadMessage). r.step) e) _ _ c.in_default-step.is c.number.ensures in
-    rw (era_read, id_read, x) c.refused_signed-in_default-step.ensures
+returns-in_err-message c =
+    let p = err_from_is_err_and c.from_residual.result c.from_residual.ensures.1 in
+    rw (p.1, p.2, num_read 8 _ _ c.read_u64.ensures c.in-Ok.is, num_read 4 _ _ c.read_u32.ensures c.in-Ok-read_u32.is)
+    (sym (err_passed message_held signed_held (read_key_gen_message base _ _) _ _ (sym c.read_message.ensures ∙ c.in_err-message.was)))
 
 pub returns-in_default-read_u64 : goal.returns-in_default-read_u64
 unfolding read_signed_key_gen_msg
 returns-in_default-read_u64 c =
-    let era_read : read_num 8 c.args.s.now c.args.at ≡ value c.in-Value.era c.in-Value.a = sym c.read_u64.ensures ∙ ap said64 c.in-Value.is in
-    let id_read : read_num 4 c.args.s.now c.in-Value.a ≡ value c.in-Value-read_u32.id c.in-Value-read_u32.b = sym c.read_u32.ensures ∙ ap said32 c.in-Value-read_u32.is in
-    let message_read : (m : KeyGenMessageOf) × (read_key_gen_message base c.args.s.now c.in-Value-read_u32.b ≡ value m c.in-Next.c) × (c.read_message-r.result.message ≡ message_held m) =
-    let e = c.read_message-r.ensures in
-    held_next (read_key_gen_message base _ _) _ (ap (λ (r : ReadMessage). r.step) e) message_held (message_held no_message) _ (ap (λ (r : ReadMessage). r.message) e) _ c.in-Next.is in
-    let x = read_refused _ _ _ _ (sym c.read_u64-2.ensures ∙ ap said64 c.in_default-read_u64.is) in
-    rw (era_read, id_read, (message_read).1, x) c.refused_signed-in_default-read_u64.ensures
+    let u = answer_ok message_held (read_key_gen_message base _ _) _ _ (sym c.read_message.ensures ∙ c.in_ok-message.was) in
+    rw (num_read 8 _ _ c.read_u64.ensures c.in-Ok.is, num_read 4 _ _ c.read_u32.ensures c.in-Ok-read_u32.is, u.1, num_cut 8 _ _ c.read_u64-2.ensures c.in_default-read_u64.is)
 
 pub returns : goal.returns
 unfolding read_signed_key_gen_msg
 returns c =
-    let era_read : read_num 8 c.args.s.now c.args.at ≡ value c.in-Value.era c.in-Value.a = sym c.read_u64.ensures ∙ ap said64 c.in-Value.is in
-    let id_read : read_num 4 c.args.s.now c.in-Value.a ≡ value c.in-Value-read_u32.id c.in-Value-read_u32.b = sym c.read_u32.ensures ∙ ap said32 c.in-Value-read_u32.is in
-    let message_read : (m : KeyGenMessageOf) × (read_key_gen_message base c.args.s.now c.in-Value-read_u32.b ≡ value m c.in-Next.c) × (c.read_message-r.result.message ≡ message_held m) =
-    let e = c.read_message-r.ensures in
-    held_next (read_key_gen_message base _ _) _ (ap (λ (r : ReadMessage). r.step) e) message_held (message_held no_message) _ (ap (λ (r : ReadMessage). r.message) e) _ c.in-Next.is in
-    let r = message_read in
-    rw (era_read, id_read, r.1, sym c.read_u64-2.ensures ∙ ap said64 c.in-Value-read_u64.is)
-    (ap {B = ReadSigned} (λ (m : KeyGenMessage). record { step = Next c.in-Value-read_u64.d; signed = record { era = c.in-Value.era; id = c.in-Value-read_u32.id; message = m; sig = c.in-Value-read_u64.sig } }) r.2)
+    let u = answer_ok message_held (read_key_gen_message base _ _) _ _ (sym c.read_message.ensures ∙ c.in_ok-message.was) in
+    rw (num_read 8 _ _ c.read_u64.ensures c.in-Ok.is, num_read 4 _ _ c.read_u32.ensures c.in-Ok-read_u32.is, u.1, num_read 8 _ _ c.read_u64-2.ensures c.in-Ok-read_u64.is)
+    (ap {B = Result (SignedKeyGenMsg × ℕ) Refusal}
+    (λ (m : KeyGenMessage). Ok (record { era = c.in-Ok.era; id = c.in-Ok-read_u32.id; message = m; sig = c.in-Ok-read_u64.sig }, c.in-Ok-read_u64.d))
+    u.2)

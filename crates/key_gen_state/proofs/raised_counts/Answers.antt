@@ -5,11 +5,8 @@ use native.Mathlib.Omega.{arith}
 use lib.ListN.{length, get_or}
 use Rattle.bincode.specs.Sizes.{base}
 use Rattle.key_gen_state.specs.KeyGenState.{raised}
-use Rattle.key_gen_state.proofs.LentCountLaws.{nodes_le, raised_there, raised_past}
+use Rattle.key_gen_state.proofs.LentCountLaws.{raised_there, raised_past}
 use Rattle.key_gen_state.proofs.raised_counts.Goals as goal
-
-pub raise-count-requires : goal.raise-count-requires
-raise-count-requires c = omega (arith, c.nodes_up_to-nodes.ensures, nodes_le base c.args.n)
 
 pub returns-then-place-lt-LIMIT : goal.returns-then-place-lt-LIMIT
 returns-then-place-lt-LIMIT c =

@@ -1,28 +1,24 @@
-use mathlib.Core.Path.{◌≡◌, ap}
-use Rattle.bincode.specs.Read.{value}
+use Prim.Native.Nat.{ℕ}
+use mathlib.Core.Path.{sym, ap, ◌∙◌}
+use Rattle.std.proofs.Common.{Ok}
+use Rattle.std.specs.declared.result.Result.{Result}
 use Rattle.bincode.specs.Sizes.{base}
-use Rattle.bincode.specs.declared.Step.TheVariants.{Next}
-use Rattle.bincode.proofs.ReadLaws.{held_next, number_refused}
-use Rattle.votes.specs.declared.ReadSignedVote.{ReadSignedVote}
-use Rattle.votes.specs.Votes.{SignedVoteOf, signed_held, no_signed, read_signed_vote}
-use Rattle.message.specs.declared.MessageKind.TheVariants.{SignedVote}
-use Rattle.message.specs.Message.{read_vote}
+use Rattle.bincode.specs.declared.Refusal.{Refusal}
+use Rattle.bincode.proofs.ReadLaws.{answer_ok, err_passed}
+use Rattle.bincode.proofs.AnswerLaws.{passed_on}
+use Rattle.votes.specs.declared.SignedVote.{SignedVote}
+use Rattle.votes.specs.Votes.{signed_held, read_signed_vote}
+use Rattle.message.specs.declared.Message.{Message}
+use Rattle.message.specs.Message.{content_held, vote_held, read_vote}
 use Rattle.message.proofs.read_vote.Goals as goal
 
-pub returns-in_default : goal.returns-in_default
+pub returns-in_err-vote : goal.returns-in_err-vote
 unfolding read_vote
-returns-in_default c =
-    let e = c.read_signed_vote-r.ensures in
-    let x = number_refused (read_signed_vote base c.args.s.now c.args.at) _ (ap (λ (r : ReadSignedVote). r.step) e) _ _ c.in_default.is c.number.ensures in
-    rw x c.refused.ensures
+returns-in_err-vote c =
+    passed_on _ _ c.from_residual.ensures.1 ∙ sym (err_passed signed_held content_held (read_signed_vote base _ _) _ _ (sym c.read_signed_vote.ensures ∙ c.in_err-vote.was))
 
 pub returns : goal.returns
 unfolding read_vote
 returns c =
-    let vote_read : (v : SignedVoteOf) × (read_signed_vote base c.args.s.now c.args.at ≡ value v c.in-Next.c) × (c.read_signed_vote-r.result.signed ≡ signed_held v) =
-    let e = c.read_signed_vote-r.ensures in
-    held_next (read_signed_vote base _ _) _ (ap (λ (r : ReadSignedVote). r.step) e) signed_held (signed_held no_signed) _ (ap (λ (r : ReadSignedVote). r.signed) e) _ c.in-Next.is in
-    let r = vote_read in
-    let m = c.empty.ensures in
-    let v = r.2 in
-    rw r.1 (λ i. record { step = Next c.in-Next.c; message = record { kind = SignedVote; era = 0; message = m i; sig = 0; vote = v i } })
+    let v = answer_ok signed_held (read_signed_vote base _ _) _ _ (sym c.read_signed_vote.ensures ∙ c.in_ok-vote.was) in
+    rw (c.of_vote.ensures, v.1) (ap {B = Result (Message × ℕ) Refusal} (λ (x : SignedVote). Ok (vote_held x, c.in_ok-vote.c)) v.2)

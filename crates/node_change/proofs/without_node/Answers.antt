@@ -1,19 +1,12 @@
 use borrow.Author.Tests.{eq-eqb, ne_eqb}
 use mathlib.Core.Bool.{not}
-use mathlib.Core.Path.{◌≡◌, sym, ap, ◌∙◌}
-use lib.ListN.{length, length-map}
-use Rattle.lists.proofs.KeptLaws.{keep_start, keep_yes, keep_no, keep_held}
+use mathlib.Core.Path.{ap}
+use Rattle.lists.proofs.KeptLaws.{keep_yes, keep_no, keep_held}
 use Rattle.bincode.specs.Sizes.{base}
-use Rattle.pub_key_map.specs.PubKeyMap.{nodes_of}
 use Rattle.node_change.specs.NodeChange.{is_not, without_node}
 use Rattle.node_change.proofs.without_node.Invariants.{itself}
 use Rattle.node_change.proofs.without_node.Goals as goal
 use Rattle.node_change.proofs.without_node.Goals.{else-x-id, then-x-id}
-
-pub loop-i-init : goal.loop-i-init
-loop-i-init c =
-    let places : length c.args.map.nodes ≡ base.nodes = c.well_formed.0.1.1.1.0.1.0.1 in
-    keep_start itself (is_not c.args.id) c.args.map.nodes c.args.map.count base.nodes c.len-n.result (places) (c.len-n.ensures.0 ∙ sym (length-map (nodes_of c.args.map) itself)) c.len-n.ensures.1
 
 pub loop-i-preserved : goal.loop-i-preserved
 loop-i-preserved c =

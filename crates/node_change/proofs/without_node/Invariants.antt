@@ -1,4 +1,3 @@
-use Prim.Native.Nat.{◌-◌}
 use Rattle.lists.proofs.KeptLaws.{Keeping}
 use Rattle.bincode.specs.Sizes.{base}
 use Rattle.pub_key_map.specs.declared.Node.{Node}
@@ -10,8 +9,4 @@ abbrev pub itself : Node → Node
 itself x = x
 
 abbrev pub invariant-loop-i : goal.invariant-loop-i
-invariant-loop-i l =
-    Keeping itself (is_not l.id) l.initial.map.nodes l.initial.map.count base.nodes l.n l.map.nodes l.kept l.i
-
-abbrev pub decreases-loop-i : goal.decreases-loop-i
-decreases-loop-i l = l.n - l.i
+invariant-loop-i l = Keeping itself (is_not l.id) l.initial.map.nodes l.initial.map.count base.nodes l.n l.map.nodes l.kept l.i

@@ -1,15 +1,15 @@
 use Prim.Native.Nat.{ℕ, ◌+◌, ◌^◌, ◌<◌}
 use mathlib.Core.Path.{◌≡◌, refl, sym, ap, ◌∙◌, subst}
-use lib.ListN.{length, replicate, length-replicate}
+use lib.ListN.{length, take, replicate, length-replicate}
 use Rattle.bincode.specs.Sizes.{base}
 use Rattle.bincode.specs.Stands.{Bytes}
-use Rattle.filled.specs.Filled.{shorter}
+use Rattle.filled.specs.Filled.{filled, shorter}
 use Rattle.pub_key_map.specs.PubKeyMap.{nodes_of}
 use Rattle.dynamic_honey_badger.specs.State.{state_of}
 use Rattle.commit.specs.Batch.{Lists as Own}
 use Rattle.process_output.specs.Opening.{call_of}
 use Rattle.process_output.specs.Process.{BatchCall}
-use Rattle.process_batch.specs.Answer.{last_by}
+use Rattle.process_batch.specs.Answer.{last_by, DueWritten}
 use Rattle.process_batch.specs.Lent.{Lists, lent_call}
 use Rattle.process_batch.specs.Worked.{WorkedAs, Concluded}
 use Rattle.process_batch.proofs.DoneLaws.{answered_as, answered_keeps, faults_filled, due_filled, few_told, parts_in}
@@ -53,18 +53,21 @@ returns c =
     let v = c.if-stirs.state in
     let q : Stored s u v t m.kept
     = elim c.if-stirs.branch [
-      | then-stirs y ↦ stored_changed s b w own u v t m _ (sym c.stirs.ensures ∙ y.if-stirs.true) y.kept-left.result y.state-is y.kept-left.ensures
+      | then-stirs y ↦ stored_changed s b w own u v t m _ (sym c.stirs.ensures ∙ y.if-stirs.true) y.keep.new.store y.state-is y.keep.ensures
       | else-stirs y ↦ stored_same s b w own u v t m (sym c.stirs.ensures ∙ y.if-stirs.false) y.state-is
     ] in
     let last = c.last_after-state.result in
-    let stamped = c.last_after-state.ensures ∙ ap (last_by t.report.outcome t.report.batch.epoch t.report.batch.era) q.same_last in
+    let stamped = c.last_after-state.ensures ∙ ap (last_by t.report) q.same_last in
+    let n = c.fault_count-faults.ensures in
+    let ids = c.copy_ids.ensures ∙ ap (λ (i : ℕ). filled (take i own.ids) a.fault_ids.now) n in
+    let kinds = c.copy_kinds.ensures ∙ ap (λ (i : ℕ). filled (take i own.kinds) a.fault_kinds.now) n in
+    let due = subst (λ (i : ℕ). DueWritten t.acks i s.vote_counter.era t.era own.indices a.due_kinds.now c.write_due.new.kinds a.due_indices.now c.write_due.new.indices a.due_eras.now c.write_due.new.eras) c.due_told.ensures c.write_due.ensures in
     let r = stored_ran s b w own u v t m q in (
       answered_as s v _ t m.kept m.faults m.due b r q.store q.same last stamped refl,
       answered_keeps s v _ t m.kept m.faults m.due b r q.store q.same last stamped refl,
-      r.no_recipe,
       (
-        faults_filled (parts_in v t) _ _ _ _ _ _ _ _ r s.vote_counter.era own m.noted _ _ _ _ c.copy_ids.ensures c.copy_kinds.ensures,
-        due_filled (parts_in v t) _ _ _ _ _ _ _ _ r s.vote_counter.era own m.noted _ _ _ _ _ _ c.write_due.ensures,
+        faults_filled (parts_in v t) _ _ _ _ m.kept m.faults m.due _ r s.vote_counter.era own m.noted _ _ _ _ ids kinds,
+        due_filled (parts_in v t) _ _ _ _ m.kept m.faults m.due _ r s.vote_counter.era own m.noted _ _ _ _ _ _ due,
       ),
-      few_told (parts_in v t) _ _ _ _ _ _ _ _ r m.few,
+      few_told (parts_in v t) _ _ _ _ m.kept m.faults m.due _ r m.few,
     )

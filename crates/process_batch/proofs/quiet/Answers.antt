@@ -1,18 +1,20 @@
+use Prim.Native.Nat.{ℕ}
 use mathlib.Core.Path.{sym, ap, ◌∙◌}
-use Rattle.process_output.specs.declared.Opening.{Opening}
+use Rattle.std.specs.declared.result.Result.{Result}
+use Rattle.bincode.specs.declared.Refusal.{Refusal}
 use Rattle.process_batch.specs.Answer.{quiet_told}
 use Rattle.process_batch.proofs.WorkLaws.{fits_epoch}
 use Rattle.process_batch.proofs.quiet.Goals as goal
 
 pub nothing_decided-requires : goal.nothing_decided-requires
-nothing_decided-requires c = fits_epoch _ _ c.in-Epoch.is c.requires
+nothing_decided-requires c = fits_epoch _ _ c.in-Ok.is c.requires
 
-pub returns-in-Refused : goal.returns-in-Refused
-returns-in-Refused c =
+pub returns-in-Err : goal.returns-in-Err
+returns-in-Err c =
     let a = c.args in
-    c.denied.ensures ∙ sym (ap (λ (o : Opening). quiet_told o a.w.committed a.era a.pub_keys a.params) c.in-Refused.is)
+    c.denied.ensures ∙ sym (ap (λ (o : Result ℕ Refusal). quiet_told o a.w.committed a.era a.pub_keys a.params) c.in-Err.is)
 
-pub returns-in-Epoch : goal.returns-in-Epoch
-returns-in-Epoch c =
+pub returns-in-Ok : goal.returns-in-Ok
+returns-in-Ok c =
     let a = c.args in
-    c.nothing_decided.ensures ∙ sym (ap (λ (o : Opening). quiet_told o a.w.committed a.era a.pub_keys a.params) c.in-Epoch.is)
+    c.nothing_decided.ensures ∙ sym (ap (λ (o : Result ℕ Refusal). quiet_told o a.w.committed a.era a.pub_keys a.params) c.in-Ok.is)

@@ -21,4 +21,4 @@ returns c =
     let few = c.requires.1 in
     let valid = sym c.is_void.ensures ∙ c.if-is_void.false in
     subst (Concluded a.s.now a.params a.counter a.before a.epoch a.c) (sym c.with_report.ensures)
-    (decided_concluded a.s.now a.params a.counter v.result a.before a.epoch a.c e.result v.ensures e.ensures valid few d.result d.ensures.1 d.ensures.0)
+    (decided_concluded a.s.now a.params a.counter v.result a.before a.epoch a.c e.result v.ensures e.ensures valid few d.result d.ensures)

@@ -1,7 +1,9 @@
 use mathlib.Core.Path.{◌≡◌, sym, ap, ◌∙◌}
 use Rattle.lists.proofs.ListLaws.{take_padded}
 use Rattle.bincode.specs.Read.{refuse, value}
+use Rattle.bincode.specs.Rows.{row_number}
 use Rattle.bincode.specs.Sizes.{base}
+use Rattle.bincode.specs.declared.Refusal.TheVariants.{ShortBuffer}
 use Rattle.internal_contrib.specs.InternalContrib.{read_batch}
 use Rattle.internal_contrib.specs.Index.{contribs_in, placed_in, no_contrib}
 use Rattle.internal_contrib.proofs.BatchLaws.{check_value, check_refuse}
@@ -12,29 +14,28 @@ use Rattle.process_output.proofs.open_batch.Goals as goal
 pub returns-then-fault_places-lt-LIMIT : goal.returns-then-fault_places-lt-LIMIT
 returns-then-fault_places-lt-LIMIT c =
     let a = c.args in
-    refused_as c.refused.result 1 _ _ c.refused.ensures (open_faults base a.era (call_of a.batch_era a.inner a.batch.now a.verdicts.now a.fault_places a.due_places) c.if-fault_places-lt-LIMIT.true)
+    refused_as c.refused.result _ _ ShortBuffer c.refused.ensures (open_faults base a.era (call_of a.batch_era a.inner a.batch.now a.verdicts.now a.fault_places a.due_places) c.if-fault_places-lt-LIMIT.true)
 
 pub returns-then-due_places-lt-LIMIT : goal.returns-then-due_places-lt-LIMIT
 returns-then-due_places-lt-LIMIT c =
     let a = c.args in
-    refused_as c.refused-then-due_places-lt-LIMIT.result 1 _ _ c.refused-then-due_places-lt-LIMIT.ensures (open_due base a.era (call_of a.batch_era a.inner a.batch.now a.verdicts.now a.fault_places a.due_places) c.if-fault_places-lt-LIMIT.false c.if-due_places-lt-LIMIT.true)
+    refused_as c.refused-then-due_places-lt-LIMIT.result _ _ ShortBuffer c.refused-then-due_places-lt-LIMIT.ensures (open_due base a.era (call_of a.batch_era a.inner a.batch.now a.verdicts.now a.fault_places a.due_places) c.if-fault_places-lt-LIMIT.false c.if-due_places-lt-LIMIT.true)
 
-pub returns-in-Refused : goal.returns-in-Refused
-returns-in-Refused c =
+pub returns-in-Err : goal.returns-in-Err
+returns-in-Err c =
     let a = c.args in
-    let i = c.index_batch-r in
-    let n = c.in-Refused.n in
-    let e : read_batch base a.batch.now ≡ refuse n = check_refuse (read_batch base a.batch.now) i.result.outcome i.ensures.0 n c.in-Refused.is in
-    refused_as c.refused-in-Refused.result n _ _ c.refused-in-Refused.ensures (open_by base a.era (call_of a.batch_era a.inner a.batch.now a.verdicts.now a.fault_places a.due_places) c.if-fault_places-lt-LIMIT.false c.if-due_places-lt-LIMIT.false (refuse n) e)
+    let i = c.index_batch in
+    let n = c.in-Err.r in
+    let e : read_batch base a.batch.now ≡ refuse (row_number n) = check_refuse (read_batch base a.batch.now) i.result i.ensures n c.in-Err.is in
+    refused_as c.refused-in-Err.result _ _ n c.refused-in-Err.ensures (open_by base a.era (call_of a.batch_era a.inner a.batch.now a.verdicts.now a.fault_places a.due_places) c.if-fault_places-lt-LIMIT.false c.if-due_places-lt-LIMIT.false (refuse (row_number n)) e)
 
-pub returns-in-Messages : goal.returns-in-Messages
-returns-in-Messages c =
+pub returns-in-Ok : goal.returns-in-Ok
+returns-in-Ok c =
     let a = c.args in
-    let i = c.index_batch-r in
+    let i = c.index_batch in
     let x = read_batch base a.batch.now in
-    let n = c.in-Messages.messages in
-    let v = check_value x i.result.outcome i.ensures.0 n c.in-Messages.is in
-    let noted = ap contribs_in i.ensures.1 ∙ take_padded base.nodes no_contrib (placed_in x) ∙ ap placed_in v.2 in
+    let v = check_value x i.result i.ensures c.in-Ok.index c.in-Ok.messages c.in-Ok.is in
+    let noted = ap contribs_in v.4 ∙ take_padded base.nodes no_contrib (placed_in x) ∙ ap placed_in v.2 in
     let r = c.open_read.ensures a.batch.now v.0 v.1 a.fault_places a.due_places v.3 noted in
     let o = open_by base a.era (call_of a.batch_era a.inner a.batch.now a.verdicts.now a.fault_places a.due_places) c.if-fault_places-lt-LIMIT.false c.if-due_places-lt-LIMIT.false (value v.0 v.1) v.2 in
     (r.0 ∙ sym o, r.1 ∙ (λ j. places_of (sym o j) (sym v.2 j)))

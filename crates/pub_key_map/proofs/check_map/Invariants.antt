@@ -8,8 +8,5 @@ use Rattle.pub_key_map.specs.declared.Node.{Node}
 use Rattle.pub_key_map.specs.PubKeyMap.{read_node, read_map, following}
 use Rattle.pub_key_map.proofs.check_map.Given as goal
 
-abbrev pub invariant-loop-i : goal.invariant-loop-i
-invariant-loop-i l = (done : List Node) × (read_map fixed base l.s l.at ≡ after done (items (read_node fixed l.s) following (l.count - l.i) l.low l.c))
-
-abbrev pub decreases-loop-i : goal.decreases-loop-i
-decreases-loop-i l = l.count - l.i
+abbrev pub invariant-loop : goal.invariant-loop
+invariant-loop l = (done : List Node) × (read_map fixed base l.s l.at ≡ after done (items (read_node fixed l.s) following (l.count - l.counter) l.low l.c))

@@ -12,8 +12,5 @@ use Rattle.pub_key_map.proofs.read_map.Given as goal
 
 abbrev pub invariant-loop-i : goal.invariant-loop-i
 invariant-loop-i l =
-    (done : List Node) × (l.i ≡ length done) × (l.i ≤ l.count) × (l.count ≤ base.nodes) × (l.nodes ≡ padded base.nodes no_node done)
+    (done : List Node) × (l.i ≡ length done) × (l.count ≤ base.nodes) × (l.nodes ≡ padded base.nodes no_node done)
     × (read_map fixed base l.s l.at ≡ after done (items (read_node fixed l.s) following (l.count - l.i) l.low l.c))
-
-abbrev pub decreases-loop-i : goal.decreases-loop-i
-decreases-loop-i l = l.count - l.i

@@ -1,29 +1,22 @@
-use mathlib.Core.Path.{◌≡◌, sym, ap, ◌∙◌}
-use mathlib.Core.List.{List}
-use Rattle.bincode.specs.Read.{value}
+use mathlib.Core.Path.{sym, ap, ◌∙◌}
 use Rattle.bincode.specs.Numbers.{fixed}
-use Rattle.bincode.specs.Sizes.{base}
-use Rattle.bincode.proofs.ReadLaws.{step_next, step_refused, whole_refused, whole_left, whole_read}
-use Rattle.pub_key_map.specs.declared.Node.{Node}
-use Rattle.pub_key_map.specs.declared.ReadMap.{ReadMap}
-use Rattle.pub_key_map.specs.PubKeyMap.{read_map, map_answer}
+use Rattle.bincode.specs.Answer.{answer}
+use Rattle.bincode.proofs.ReadLaws.{answer_ok, whole_refused, whole_left, whole_read}
+use Rattle.bincode.proofs.AnswerLaws.{answer_exit}
+use Rattle.pub_key_map.specs.PubKeyMap.{map_held, read_map}
 use Rattle.pub_key_map.proofs.read_whole_map.Goals as goal
 
-pub returns-in_default : goal.returns-in_default
-returns-in_default c =
-    let s = c.args.s.now in
-    let e = c.read_map-r.ensures in
-    let x = step_refused (read_map fixed base s 0) _ (sym (ap (λ (r : ReadMap). r.step) e) ∙ c.in_default.is) in
-    e ∙ ap map_answer (x ∙ sym (whole_refused (read_map fixed base s) s _ x))
+pub returns-in_err-map : goal.returns-in_err-map
+returns-in_err-map c =
+    let p = answer_exit map_held _ _ (sym c.read_map.ensures ∙ c.in_err-map.was) _ c.from_residual.ensures.1 in
+    p.2 ∙ ap (answer map_held) (sym (whole_refused (read_map fixed _ c.args.s.now) _ _ p.1))
 
 pub returns-then-c-s : goal.returns-then-c-s
 returns-then-c-s c =
-    let map_read : (ns : List Node) × (read_map fixed base c.args.s.now 0 ≡ value ns c.in-Next.c) = step_next (read_map fixed base c.args.s.now 0) _ (sym (ap (λ (r : ReadMap). r.step) c.read_map-r.ensures) ∙ c.in-Next.is) in
-    let x = map_read in
-    c.refused.ensures ∙ ap map_answer (sym (whole_left (read_map fixed base c.args.s.now) _ _ _ x.1 c.if-c-s.true))
+    let p = answer_ok map_held _ _ _ (sym c.read_map.ensures ∙ c.in_ok-map.was) in
+    ap (answer map_held) (sym (whole_left (read_map fixed _ c.args.s.now) _ _ _ p.1 c.if-c-s.true))
 
 pub returns : goal.returns
 returns c =
-    let map_read : (ns : List Node) × (read_map fixed base c.args.s.now 0 ≡ value ns c.in-Next.c) = step_next (read_map fixed base c.args.s.now 0) _ (sym (ap (λ (r : ReadMap). r.step) c.read_map-r.ensures) ∙ c.in-Next.is) in
-    let x = map_read in
-    c.read_map-r.ensures ∙ ap map_answer (x.1 ∙ sym (whole_read (read_map fixed base c.args.s.now) _ _ _ x.1 c.if-c-s.false))
+    let p = answer_ok map_held _ _ _ (sym c.read_map.ensures ∙ c.in_ok-map.was) in
+    sym c.in_ok-map.was ∙ c.read_map.ensures ∙ ap (answer map_held) (p.1 ∙ sym (whole_read (read_map fixed _ c.args.s.now) _ _ _ p.1 c.if-c-s.false))

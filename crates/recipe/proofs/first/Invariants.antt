@@ -1,5 +1,4 @@
 use mathlib.Core.Bool.{false}
-use Prim.Native.Nat.{◌≤◌, ◌-◌}
 use lib.ListN.{drop}
 use Rattle.bincode.specs.Sizes.{base}
 use Rattle.recipe.specs.Places.{first_marks}
@@ -7,7 +6,4 @@ use Rattle.recipe.proofs.FillLaws.{Filled}
 use Rattle.recipe.proofs.first.Given as goal
 
 abbrev pub invariant-loop-i : goal.invariant-loop-i
-invariant-loop-i l = (l.i ≤ base.nodes) × Filled base.nodes false l.out l.i (first_marks l.left (drop l.i l.good)) (first_marks l.n l.good)
-
-abbrev pub decreases-loop-i : goal.decreases-loop-i
-decreases-loop-i l = base.nodes - l.i
+invariant-loop-i l = Filled base.nodes false l.out l.i (first_marks l.left (drop l.i l.good)) (first_marks l.n l.good)

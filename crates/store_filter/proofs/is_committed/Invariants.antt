@@ -1,4 +1,3 @@
-use Prim.Native.Nat.{◌≤◌, ◌-◌}
 use mathlib.Core.Path.{◌≡◌}
 use mathlib.Core.List.{List, map}
 use lib.ListN.{drop}
@@ -9,7 +8,4 @@ use Rattle.store_filter.proofs.is_committed.Given as goal
 
 abbrev pub invariant-loop-i : goal.invariant-loop-i
 invariant-loop-i l =
-    (l.i ≤ l.n) × ((es : List Entry) → Listed l.s es l.n l.ids l.firsts l.places → is_none (map message_in es) (signed_of l.x) ≡ is_none (map message_in (drop l.i es)) (signed_of l.x))
-
-abbrev pub decreases-loop-i : goal.decreases-loop-i
-decreases-loop-i l = l.n - l.i
+    (es : List Entry) → Listed l.s es l.n l.ids l.firsts l.places → is_none (map message_in es) (signed_of l.x) ≡ is_none (map message_in (drop l.i es)) (signed_of l.x)

@@ -1,26 +1,15 @@
-use mathlib.Core.Path.{◌≡◌, sym, ap, ◌∙◌}
+use mathlib.Core.Path.{sym, ap, ◌∙◌}
 use mathlib.Core.Bool.{not}
 use mathlib.Core.List.{map}
 use native.Mathlib.Omega.{arith}
-use lib.ListN.{length, length-set}
-use Rattle.lists.proofs.KeptLaws.{keep_start, keep_yes, keep_no, keep_end}
+use lib.ListN.{length-set}
+use Rattle.lists.proofs.KeptLaws.{keep_yes, keep_no, keep_end}
 use Rattle.bincode.specs.Sizes.{base}
 use Rattle.key_gen_message.specs.KeyGenMessage.{signed_of}
 use Rattle.steps.specs.Kept.{is_none}
 use Rattle.store_filter.specs.Filter.{message_in, without_entries}
 use Rattle.store_filter.proofs.keep_others.Goals as goal
 use Rattle.store_filter.proofs.keep_others.Goals.{else-not-is_committed, then-not-is_committed}
-
-pub loop-i-init : goal.loop-i-init
-loop-i-init c =
-    let t = c.args.store in
-    let l : length t.messages ≡ base.store = c.well_formed.0.1.1.1.0.1.0.1 in (
-      omega arith,
-      omega arith,
-      c.len-n.ensures.1,
-      l,
-      λ es h. keep_start signed_of (is_none (map message_in es)) t.messages t.count base.store c.len-n.result l c.len-n.ensures.0 c.len-n.ensures.1,
-    )
 
 pub loop-i-preserved : goal.loop-i-preserved
 loop-i-preserved c =
@@ -33,17 +22,13 @@ loop-i-preserved c =
     elim c.if-not-is_committed.branch [
       | then-not-is_committed w ↦ rw (w.store-is, w.kept-is) (
         omega (arith, v.0),
-        omega (arith, b),
-        v.2,
-        simp length-set v.3,
-        λ es h. keep_yes signed_of (is_none (map message_in es)) t.messages t.count base.store n l.store.messages l.kept l.i _ (v.4 es h) b (sym (o.ensures es h) ∙ ap not w.if-not-is_committed.true),
+        simp length-set v.1,
+        λ es h. keep_yes signed_of (is_none (map message_in es)) t.messages t.count base.store n l.store.messages l.kept l.i _ (v.2 es h) b (sym (o.ensures es h) ∙ ap not w.if-not-is_committed.true),
       )
       | else-not-is_committed w ↦ rw (w.store-is, w.kept-is) (
         omega (arith, v.0),
-        omega (arith, b),
-        v.2,
-        v.3,
-        λ es h. keep_no signed_of (is_none (map message_in es)) t.messages t.count base.store n l.store.messages l.kept l.i _ (v.4 es h) b (sym (o.ensures es h) ∙ ap not w.if-not-is_committed.false),
+        v.1,
+        λ es h. keep_no signed_of (is_none (map message_in es)) t.messages t.count base.store n l.store.messages l.kept l.i _ (v.2 es h) b (sym (o.ensures es h) ∙ ap not w.if-not-is_committed.false),
       )
     ]
 
@@ -52,4 +37,4 @@ unfolding without_entries
 returns c =
     let t = c.args.store in
     let l = c.loop-i in
-    λ es h. keep_end signed_of (is_none (map message_in es)) t.messages t.count base.store c.len-n.result l.store.messages l.kept l.i (l.invariant.4 es h) c.loop-i-test.false
+    λ es h. keep_end signed_of (is_none (map message_in es)) t.messages t.count base.store c.len-n.result l.store.messages l.kept l.i (l.invariant.2 es h) c.loop-i-test.false

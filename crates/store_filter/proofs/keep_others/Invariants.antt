@@ -1,4 +1,4 @@
-use Prim.Native.Nat.{◌≤◌, ◌-◌}
+use Prim.Native.Nat.{◌≤◌}
 use mathlib.Core.Path.{◌≡◌}
 use mathlib.Core.List.{List, map}
 use lib.ListN.{length}
@@ -11,8 +11,5 @@ use Rattle.store_filter.proofs.keep_others.Given as goal
 
 abbrev pub invariant-loop-i : goal.invariant-loop-i
 invariant-loop-i l =
-    (l.kept ≤ l.i) × (l.i ≤ l.n) × (l.n ≤ base.store) × (length l.store.messages ≡ base.store)
+    (l.kept ≤ l.i) × (length l.store.messages ≡ base.store)
     × ((es : List Entry) → Listed l.s es l.m l.ids l.firsts l.places → Keeping signed_of (is_none (map message_in es)) l.initial.store.messages l.initial.store.count base.store l.n l.store.messages l.kept l.i)
-
-abbrev pub decreases-loop-i : goal.decreases-loop-i
-decreases-loop-i l = l.n - l.i

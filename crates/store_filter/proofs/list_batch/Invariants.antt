@@ -1,7 +1,6 @@
-use Prim.Native.Nat.{◌≤◌, ◌-◌}
-use mathlib.Core.Path.{◌≡◌}
+use Prim.Native.Nat.{◌≤◌}
 use mathlib.Core.List.{[]}
-use lib.ListN.{length, take}
+use lib.ListN.{take}
 use Rattle.bincode.specs.Sizes.{base}
 use Rattle.bincode.specs.Items.{foldl}
 use Rattle.internal_contrib.specs.Index.{contribs_in}
@@ -10,8 +9,4 @@ use Rattle.store_filter.proofs.list_batch.Given as goal
 
 abbrev pub invariant-loop-i : goal.invariant-loop-i
 invariant-loop-i l =
-    (l.n ≡ length (contribs_in l.index)) × (l.n ≤ base.nodes) × Room l.ids l.firsts l.places × (l.m ≤ base.items)
-    × Listed l.s (foldl (contrib_listed l.s) [] (take l.i (contribs_in l.index))) l.m l.ids l.firsts l.places
-
-abbrev pub decreases-loop-i : goal.decreases-loop-i
-decreases-loop-i l = l.n - l.i
+    Room l.ids l.firsts l.places × (l.m ≤ base.items) × Listed l.s (foldl (contrib_listed l.s) [] (take l.i (contribs_in l.index))) l.m l.ids l.firsts l.places

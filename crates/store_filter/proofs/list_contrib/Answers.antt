@@ -6,6 +6,3 @@ returns-then-s-e c =
     let a = c.args in
     let q = c.requires in
     ((λ es h. rw (entries_past a.s.now a.e.message_count a.e.messages c.if-s-e.true) h), q.0, q.1)
-
-pub returns : goal.returns
-returns c = c.list_messages.ensures

@@ -10,6 +10,3 @@ returns-then-store-eq0 c =
 
 pub returns-then-m-eq0 : goal.returns-then-m-eq0
 returns-then-m-eq0 c = none_listed _ (c.list_batch-m.ensures.0.count ∙ c.if-m-eq0.true) (store_of c.args.store)
-
-pub returns : goal.returns
-returns c = c.keep_others.ensures _ c.list_batch-m.ensures.0

@@ -1,4 +1,4 @@
-use Prim.Native.Nat.{ℕ, ◌-◌, ◌≤◌}
+use Prim.Native.Nat.{ℕ, ◌-◌}
 use mathlib.Core.Path.{◌≡◌}
 use mathlib.Core.List.{List}
 use lib.ListN.{length}
@@ -11,8 +11,4 @@ use Rattle.sync_key_gen.proofs.read_handles.Given as goal
 
 abbrev pub invariant-loop-i : goal.invariant-loop-i
 invariant-loop-i l =
-    (done : List ℕ) × (l.i ≡ length done) × (l.i ≤ l.count) × (l.count ≤ base.rows) × (l.values ≡ padded base.rows 0 done)
-    × (read_handles base l.s l.at ≡ after done (many (read_num 8 l.s) (l.count - l.i) l.c))
-
-abbrev pub decreases-loop-i : goal.decreases-loop-i
-decreases-loop-i l = l.count - l.i
+    (done : List ℕ) × (l.i ≡ length done) × (l.values ≡ padded base.rows 0 done) × (read_handles base l.s l.at ≡ after done (many (read_num 8 l.s) (l.count - l.i) l.c))

@@ -1,51 +1,58 @@
-use mathlib.Core.Path.{◌≡◌, sym, ap, ◌∙◌}
-use Rattle.bincode.specs.Read.{value}
-use Rattle.bincode.specs.Numbers.{read_num, fixed}
+use mathlib.Core.Path.{sym, ap, ◌∙◌}
+use Rattle.bincode.specs.Numbers.{fixed}
 use Rattle.bincode.specs.Sizes.{base}
-use Rattle.bincode.specs.Answer.{said32, said64}
-use Rattle.bincode.proofs.ReadLaws.{step_next, number_refused}
-use Rattle.change.specs.Change.{ChangeOf, read_change}
-use Rattle.votes.specs.VoteHead.{head_answer}
-use Rattle.votes.proofs.HeadLaws.{change_refused, era_cut, num_cut, voter_cut, sig_cut, head_read}
+use Rattle.bincode.specs.Answer.{answer}
+use Rattle.bincode.proofs.ReadLaws.{step_ok}
+use Rattle.bincode.proofs.AnswerLaws.{step_exit, num_read, num_cut}
+use Rattle.change.specs.Change.{read_change}
+use Rattle.votes.specs.Votes.{read_vote, read_signed_vote}
+use Rattle.votes.specs.VoteHead.{head_of}
+use Rattle.votes.proofs.HeadLaws.{change_refused}
 use Rattle.votes.proofs.read_vote_head.Goals as goal
 
+pub returns-in_err-a : goal.returns-in_err-a
+returns-in_err-a c =
+    let x = step_exit (read_change fixed base _ _) _ (sym c.check_change.ensures ∙ c.in_err-a.was) _ c.from_residual.ensures.1 in
+    x.2 ∙ ap (answer head_of) (change_refused base _ _ _ x.1)
+
 pub returns-in_default : goal.returns-in_default
+unfolding read_signed_vote read_vote
 returns-in_default c =
-    c.refused_head.ensures ∙ ap head_answer (change_refused base _ _ _ (number_refused (read_change fixed base c.args.s.now _) _ c.check_change-step.ensures _ _ c.in_default.is c.number.ensures))
+    let x = step_ok (read_change fixed base _ _) _ (sym c.check_change.ensures ∙ c.in_ok-a.was) in
+    rw (x.1, num_cut 8 _ _ c.read_u64.ensures c.in_default.is)
 
 pub returns-in_default-read_u64 : goal.returns-in_default-read_u64
+unfolding read_signed_vote read_vote
 returns-in_default-read_u64 c =
-    let change_read : (x : ChangeOf) × (read_change fixed base c.args.s.now c.args.at ≡ value x c.in-Next.a) = step_next (read_change fixed base c.args.s.now c.args.at) _ (sym c.check_change-step.ensures ∙ c.in-Next.is) in
-    c.refused_head-in_default-read_u64.ensures ∙ ap head_answer (era_cut base _ _ _ _ (change_read).1 _ (sym c.read_u64.ensures ∙ ap said64 c.in_default-read_u64.is))
-
-pub returns-in_default-read_u64-2 : goal.returns-in_default-read_u64-2
-returns-in_default-read_u64-2 c =
-    let change_read : (x : ChangeOf) × (read_change fixed base c.args.s.now c.args.at ≡ value x c.in-Next.a) = step_next (read_change fixed base c.args.s.now c.args.at) _ (sym c.check_change-step.ensures ∙ c.in-Next.is) in
-    let era_read : read_num 8 c.args.s.now c.in-Next.a ≡ value c.in-Value.era c.in-Value.b = sym c.read_u64.ensures ∙ ap said64 c.in-Value.is in
-    c.refused_head-in_default-read_u64-2.ensures
-    ∙ ap head_answer (num_cut base _ _ _ _ (change_read).1 _ _ (era_read) _ (sym c.read_u64-2.ensures ∙ ap said64 c.in_default-read_u64-2.is))
+    let x = step_ok (read_change fixed base _ _) _ (sym c.check_change.ensures ∙ c.in_ok-a.was) in
+    rw (x.1, num_read 8 _ _ c.read_u64.ensures c.in-Ok.is, num_cut 8 _ _ c.read_u64-2.ensures c.in_default-read_u64.is)
 
 pub returns-in_default-read_u32 : goal.returns-in_default-read_u32
+unfolding read_signed_vote read_vote
 returns-in_default-read_u32 c =
-    let change_read : (x : ChangeOf) × (read_change fixed base c.args.s.now c.args.at ≡ value x c.in-Next.a) = step_next (read_change fixed base c.args.s.now c.args.at) _ (sym c.check_change-step.ensures ∙ c.in-Next.is) in
-    let era_read : read_num 8 c.args.s.now c.in-Next.a ≡ value c.in-Value.era c.in-Value.b = sym c.read_u64.ensures ∙ ap said64 c.in-Value.is in
-    let num_read : read_num 8 c.args.s.now c.in-Value.b ≡ value c.in-Value-read_u64.num c.in-Value-read_u64.c = sym c.read_u64-2.ensures ∙ ap said64 c.in-Value-read_u64.is in
-    c.refused_head-in_default-read_u32.ensures
-    ∙ ap head_answer (voter_cut base _ _ _ _ (change_read).1 _ _ (era_read) _ _ (num_read) _ (sym c.read_u32.ensures ∙ ap said32 c.in_default-read_u32.is))
+    let x = step_ok (read_change fixed base _ _) _ (sym c.check_change.ensures ∙ c.in_ok-a.was) in
+    rw (x.1, num_read 8 _ _ c.read_u64.ensures c.in-Ok.is, num_read 8 _ _ c.read_u64-2.ensures c.in-Ok-read_u64.is, num_cut 4 _ _ c.read_u32.ensures c.in_default-read_u32.is)
 
-pub returns-in_default-read_u64-3 : goal.returns-in_default-read_u64-3
-returns-in_default-read_u64-3 c =
-    let change_read : (x : ChangeOf) × (read_change fixed base c.args.s.now c.args.at ≡ value x c.in-Next.a) = step_next (read_change fixed base c.args.s.now c.args.at) _ (sym c.check_change-step.ensures ∙ c.in-Next.is) in
-    let era_read : read_num 8 c.args.s.now c.in-Next.a ≡ value c.in-Value.era c.in-Value.b = sym c.read_u64.ensures ∙ ap said64 c.in-Value.is in
-    let num_read : read_num 8 c.args.s.now c.in-Value.b ≡ value c.in-Value-read_u64.num c.in-Value-read_u64.c = sym c.read_u64-2.ensures ∙ ap said64 c.in-Value-read_u64.is in
-    let voter_read : read_num 4 c.args.s.now c.in-Value-read_u64.c ≡ value c.in-Value-read_u32.voter c.in-Value-read_u32.d = sym c.read_u32.ensures ∙ ap said32 c.in-Value-read_u32.is in
-    c.refused_head-in_default-read_u64-3.ensures
-    ∙ ap head_answer (sig_cut base _ _ _ _ (change_read).1 _ _ (era_read) _ _ (num_read) _ _ (voter_read) _ (sym c.read_u64-3.ensures ∙ ap said64 c.in_default-read_u64-3.is))
+pub returns-in_default-read_u64-2 : goal.returns-in_default-read_u64-2
+unfolding read_signed_vote read_vote
+returns-in_default-read_u64-2 c =
+    let x = step_ok (read_change fixed base _ _) _ (sym c.check_change.ensures ∙ c.in_ok-a.was) in
+    rw (
+      x.1,
+      num_read 8 _ _ c.read_u64.ensures c.in-Ok.is,
+      num_read 8 _ _ c.read_u64-2.ensures c.in-Ok-read_u64.is,
+      num_read 4 _ _ c.read_u32.ensures c.in-Ok-read_u32.is,
+      num_cut 8 _ _ c.read_u64-3.ensures c.in_default-read_u64-2.is,
+    )
 
 pub returns : goal.returns
+unfolding read_signed_vote read_vote
 returns c =
-    let change_read : (x : ChangeOf) × (read_change fixed base c.args.s.now c.args.at ≡ value x c.in-Next.a) = step_next (read_change fixed base c.args.s.now c.args.at) _ (sym c.check_change-step.ensures ∙ c.in-Next.is) in
-    let era_read : read_num 8 c.args.s.now c.in-Next.a ≡ value c.in-Value.era c.in-Value.b = sym c.read_u64.ensures ∙ ap said64 c.in-Value.is in
-    let num_read : read_num 8 c.args.s.now c.in-Value.b ≡ value c.in-Value-read_u64.num c.in-Value-read_u64.c = sym c.read_u64-2.ensures ∙ ap said64 c.in-Value-read_u64.is in
-    let voter_read : read_num 4 c.args.s.now c.in-Value-read_u64.c ≡ value c.in-Value-read_u32.voter c.in-Value-read_u32.d = sym c.read_u32.ensures ∙ ap said32 c.in-Value-read_u32.is in
-    head_read base _ _ _ _ (change_read).1 _ _ (era_read) _ _ (num_read) _ _ (voter_read) _ _ (sym c.read_u64-3.ensures ∙ ap said64 c.in-Value-read_u64-2.is)
+    let x = step_ok (read_change fixed base _ _) _ (sym c.check_change.ensures ∙ c.in_ok-a.was) in
+    rw (
+      x.1,
+      num_read 8 _ _ c.read_u64.ensures c.in-Ok.is,
+      num_read 8 _ _ c.read_u64-2.ensures c.in-Ok-read_u64.is,
+      num_read 4 _ _ c.read_u32.ensures c.in-Ok-read_u32.is,
+      num_read 8 _ _ c.read_u64-3.ensures c.in-Ok-read_u64-2.is,
+    )

@@ -1,4 +1,3 @@
-use Rattle.std.proofs.Common.{rules}
 use mathlib.Core.Path.{◌≡◌, refl, sym, ap, ◌∙◌, subst}
 use mathlib.Core.Bool.{Bool, true, false, not}
 use mathlib.Core.List.{List}
@@ -55,7 +54,7 @@ pub loop-i-init : goal.loop-i-init
 loop-i-init c =
     let vs = votes_of c.args.votes in
     let e = ap rows_of c.empty-board.ensures in
-    (search rules, c.len-n.ensures.1, c.len-n.ensures.0, omega (arith, ap length e), refl, marked_start vs base.nodes, none_in vs ∙ ap (λ (rs : List BoardRow). in_order count_in voter_in rs (to_come vs 0)) (sym e))
+    (omega (arith, ap length e), refl, marked_start vs base.nodes, none_in vs ∙ ap (λ (rs : List BoardRow). in_order count_in voter_in rs (to_come vs 0)) (sym e))
 
 pub loop-j-init : goal.loop-j-init
 loop-j-init c =
@@ -63,10 +62,10 @@ loop-j-init c =
     let vs = votes_of a.votes in
     let v = c.loop-i.invariant in
     let i = c.loop-i.i in
-    let l : i < length vs = omega (arith, v.2, c.loop-i-test.true) in
-    let z = first_here vs i c.loop-i.seen l v.5 c.if-not-seen-i.true in
+    let l : i < length vs = omega (arith, c.len-n.ensures.0, c.loop-i-test.true) in
+    let z = first_here vs i c.loop-i.seen l v.2 c.if-not-seen-i.true in
     let own = ap voter_of (vote-at a.votes i l _) in
-    (omega (arith, c.loop-i-test.true), v.1, v.2, omega arith, v.4, l, counted-as vs i l (i + 1) (sym own) refl (counted_start vs i l z), marking_start vs i c.loop-i.seen v.5)
+    (omega arith, v.1, l, counted-as vs i l (i + 1) (sym own) refl (counted_start vs i l z), marking_start vs i c.loop-i.seen v.2)
 
 pub loop-j-preserved : goal.loop-j-preserved
 loop-j-preserved c =
@@ -75,51 +74,40 @@ loop-j-preserved c =
     let v = c.loop-j.invariant in
     let i = c.loop-i.i in
     let j = c.loop-j.j in
-    let k : j < length vs = omega (arith, v.2, c.loop-j-test.true) in
-    let l = v.5 in
+    let k : j < length vs = omega (arith, c.len-n.ensures.0, c.loop-j-test.true) in
+    let l = v.2 in
     let same = agreed a.votes i j l k _ _ ∙ sym c.is_for.ensures in
     let seen = c.loop-j.seen in
-    let room : j < length seen = omega (arith, v.1, v.4, c.loop-j-test.true) in
-    let kept = counted_no vs i l _ _ j k v.6 in
-    let more = counted_yes vs i l _ _ j k v.6 in
-    let marks = marking_yes vs i j seen l k v.7 room in
+    let room : j < length seen = omega (arith, c.len-n.ensures.1, v.1, c.loop-j-test.true) in
+    let kept = counted_no vs i l _ _ j k v.3 in
+    let more = counted_yes vs i l _ _ j k v.3 in
+    let marks = marking_yes vs i j seen l k v.4 room in
     elim c.if-is_for.branch [
       | then-is_for+then-y-low w ↦ (
-        search rules,
-        v.1,
-        v.2,
-        omega (arith, v.3, w.count-is),
-        ap length w.seen-is ∙ length-set seen j true ∙ v.4,
+        omega (arith, v.0, w.count-is),
+        ap length w.seen-is ∙ length-set seen j true ∙ v.1,
         l,
         counted-as vs i l (j + 1) (w.low-is ∙ lower _ _ w.if-y-low.true ∙ ap (min _) (sym (ap voter_of (vote-at a.votes j k _)))) w.count-is (more (same ∙ w.if-is_for.true)),
         subst (Marking vs i (j + 1)) (sym w.seen-is) (marks (same ∙ w.if-is_for.true)),
       )
       | then-is_for+else-y-low w ↦ (
-        search rules,
-        v.1,
-        v.2,
-        omega (arith, v.3, w.count-is),
-        ap length w.seen-is ∙ length-set seen j true ∙ v.4,
+        omega (arith, v.0, w.count-is),
+        ap length w.seen-is ∙ length-set seen j true ∙ v.1,
         l,
         counted-as vs i l (j + 1) (w.low-is ∙ not_lower _ _ w.if-y-low.false ∙ ap (min _) (sym (ap voter_of (vote-at a.votes j k _)))) w.count-is (more (same ∙ w.if-is_for.true)),
         subst (Marking vs i (j + 1)) (sym w.seen-is) (marks (same ∙ w.if-is_for.true)),
       )
       | else-is_for w ↦ (
-        search rules,
-        v.1,
-        v.2,
-        omega (arith, v.3, w.count-is),
-        ap length w.seen-is ∙ v.4,
+        omega (arith, v.0, w.count-is),
+        ap length w.seen-is ∙ v.1,
         l,
         counted-as vs i l (j + 1) w.low-is w.count-is (kept (same ∙ w.if-is_for.false)),
-        subst (Marking vs i (j + 1)) (sym w.seen-is) (marking_no vs i j seen l k v.7 (same ∙ w.if-is_for.false)),
+        subst (Marking vs i (j + 1)) (sym w.seen-is) (marking_no vs i j seen l k v.4 (same ∙ w.if-is_for.false)),
       )
     ]
 
 pub put-board-requires : goal.put-board-requires
-put-board-requires c =
-    let v = c.loop-i.invariant in
-    omega (arith, v.1, v.3, c.loop-i-test.true)
+put-board-requires c = omega (arith, c.len-n.ensures.1, c.loop-i.invariant.0, c.loop-i-test.true)
 
 pub loop-i-preserved : goal.loop-i-preserved
 loop-i-preserved c =
@@ -127,37 +115,30 @@ loop-i-preserved c =
     let v = c.loop-i.invariant in
     let i = c.loop-i.i in
     let done = rows_of c.loop-i.board in
-    let l : i < length vs = omega (arith, v.2, c.loop-i-test.true) in
+    let l : i < length vs = omega (arith, c.len-n.ensures.0, c.loop-i-test.true) in
     elim c.if-not-seen-i.branch [
       | then-not-seen-i+else-loop-j-test w ↦
           let u = w.loop-j.invariant in
-          let end : length vs ≤ w.loop-j.j = omega (arith, u.2, w.loop-j-test.false) in
+          let end : length vs ≤ w.loop-j.j = omega (arith, c.len-n.ensures.0, w.loop-j-test.false) in
           let row : BoardRow = record { voter = w.loop-j.low; count = w.loop-j.count } in
           let e = ap rows_of w.board-is ∙ w.put-board.ensures in (
-            search rules,
-            v.1,
-            v.2,
-            omega (arith, v.3, ap length e, length_placed count_in voter_in row done),
-            ap length w.seen-is ∙ u.4,
-            subst (Marked vs (i + 1)) (sym w.seen-is) (marking_end vs i w.loop-j.j w.loop-j.seen end u.7),
-            v.6 ∙ row_in vs i l done row (begins vs i u.5 w.loop-j.low w.loop-j.count w.loop-j.j end u.6) ∙ ap (λ (rs : List BoardRow). in_order count_in voter_in rs (to_come vs (i + 1))) (sym e),
+            omega (arith, v.0, ap length e, length_placed count_in voter_in row done),
+            ap length w.seen-is ∙ u.1,
+            subst (Marked vs (i + 1)) (sym w.seen-is) (marking_end vs i w.loop-j.j w.loop-j.seen end u.4),
+            v.3 ∙ row_in vs i l done row (begins vs i u.2 w.loop-j.low w.loop-j.count w.loop-j.j end u.3) ∙ ap (λ (rs : List BoardRow). in_order count_in voter_in rs (to_come vs (i + 1))) (sym e),
           )
       | else-not-seen-i w ↦
           let e = ap rows_of w.board-is in
           let is : get_or c.loop-i.seen i false ≡ true = w.if-not-seen-i.false in
           let row : BoardRow = record { voter = 0; count = 0 } in (
-            search rules,
-            v.1,
-            v.2,
-            omega (arith, v.3, ap length e),
-            ap length w.seen-is ∙ v.4,
-            subst (Marked vs (i + 1)) (sym w.seen-is) (marked_again vs i c.loop-i.seen l is v.5),
-            v.6 ∙ row_there vs i l done row (begun_before vs i c.loop-i.seen l v.5 is row) ∙ ap (λ (rs : List BoardRow). in_order count_in voter_in rs (to_come vs (i + 1))) (sym e),
+            omega (arith, v.0, ap length e),
+            ap length w.seen-is ∙ v.1,
+            subst (Marked vs (i + 1)) (sym w.seen-is) (marked_again vs i c.loop-i.seen l is v.2),
+            v.3 ∙ row_there vs i l done row (begun_before vs i c.loop-i.seen l v.2 is row) ∙ ap (λ (rs : List BoardRow). in_order count_in voter_in rs (to_come vs (i + 1))) (sym e),
           )
     ]
 
 pub returns : goal.returns
 returns c =
     let vs = votes_of c.args.votes in
-    let v = c.loop-i.invariant in
-    sym (v.6 ∙ all_in vs c.loop-i.i (omega (arith, v.2, c.loop-i-test.false)) (rows_of c.loop-i.board))
+    sym (c.loop-i.invariant.3 ∙ all_in vs c.loop-i.i (omega (arith, c.len-n.ensures.0, c.loop-i-test.false)) (rows_of c.loop-i.board))

@@ -1,5 +1,5 @@
 use mathlib.Core.Path.{◌≡◌}
-use Prim.Native.Nat.{◌≤◌, ◌<◌, ◌-◌}
+use Prim.Native.Nat.{◌≤◌, ◌<◌}
 use lib.ListN.{length}
 use Rattle.bincode.specs.Sizes.{base}
 use Rattle.signed_votes.specs.SignedVotes.{votes_of}
@@ -11,16 +11,9 @@ use Rattle.board.proofs.Board.of.Given as goal
 
 abbrev pub invariant-loop-j : goal.invariant-loop-j
 invariant-loop-j l =
-    (l.j ≤ l.n) × (l.n ≤ base.nodes) × (l.n ≡ length (votes_of l.votes)) × (l.count ≤ l.j) × (length l.seen ≡ base.nodes) × (l₁ : l.i < length (votes_of l.votes)) × Counted (votes_of l.votes) l.i l₁ l.low l.count l.j
-    × Marking (votes_of l.votes) l.i l.j l.seen
-
-abbrev pub decreases-loop-j : goal.decreases-loop-j
-decreases-loop-j l = l.n - l.j
+    (l.count ≤ l.j) × (length l.seen ≡ base.nodes) × (l₁ : l.i < length (votes_of l.votes)) × Counted (votes_of l.votes) l.i l₁ l.low l.count l.j × Marking (votes_of l.votes) l.i l.j l.seen
 
 abbrev pub invariant-loop-i : goal.invariant-loop-i
 invariant-loop-i l =
-    (l.i ≤ l.n) × (l.n ≤ base.nodes) × (l.n ≡ length (votes_of l.votes)) × (length (rows_of l.board) ≤ l.i) × (length l.seen ≡ base.nodes) × Marked (votes_of l.votes) l.i l.seen
+    (length (rows_of l.board) ≤ l.i) × (length l.seen ≡ base.nodes) × Marked (votes_of l.votes) l.i l.seen
     × (worked_out (votes_of l.votes) ≡ in_order count_in voter_in (rows_of l.board) (to_come (votes_of l.votes) l.i))
-
-abbrev pub decreases-loop-i : goal.decreases-loop-i
-decreases-loop-i l = l.n - l.i

@@ -7,7 +7,4 @@ use Rattle.board.proofs.Board.put.Given as goal
 
 abbrev pub invariant-loop-j : goal.invariant-loop-j
 invariant-loop-j l =
-    (l.at ≤ l.j) × (l.j ≤ l.n) × (l.n < base.nodes) × (length l.self.rows ≡ base.nodes) × (h : l.n < length l.initial.self.rows) × Shifted l.initial.self.rows l.n h l.j l.self.rows
-
-abbrev pub decreases-loop-j : goal.decreases-loop-j
-decreases-loop-j l = l.j
+    (l.at ≤ l.j) × (l.n < base.nodes) × (length l.self.rows ≡ base.nodes) × (h : l.n < length l.initial.self.rows) × Shifted l.initial.self.rows l.n h l.j l.self.rows

@@ -1,4 +1,4 @@
-use Prim.Native.Nat.{ℕ, ◌≤◌, ◌-◌}
+use Prim.Native.Nat.{ℕ, ◌≤◌}
 use mathlib.Core.Path.{◌≡◌}
 use mathlib.Core.List.{List}
 use lib.ListN.{length}
@@ -18,12 +18,9 @@ abbrev pub point : KeyGenState → KeyGen → ℕ → ℕ → List ℕ → List 
 point state kg judged faults ids kinds due indices =
     record { key_gen = key_gen_in state.running state.counts.counts kg; judged = judged; faults = faults; ids = ids; kinds = kinds; due = due; indices = indices }
 
-abbrev pub invariant-loop-i : goal.invariant-loop-i
-invariant-loop-i l =
-    (l.f ≤ base.faults) × (l.d ≤ base.due) × ((length l.ids ≡ length l.initial.ids) × (length l.kinds ≡ length l.initial.kinds) × (length l.indices ≡ length l.initial.indices))
+abbrev pub invariant-loop : goal.invariant-loop
+invariant-loop l =
+    (l.f ≤ base.faults) × (l.d ≤ base.due)
     × ((length l.kg.proposals ≡ base.nodes) × (l.kg.pub_keys ≡ l.state.key_gen.pub_keys) × (l.kg.our_id ≡ l.state.key_gen.our_id))
     × ((w : WorkOf) (x y z : List ℕ) → HeldAt l.era (nodes_of l.map) l.verdicts x y z w (point l.state l.state.key_gen l.judged l.faults l.initial.ids l.initial.kinds l.due l.initial.indices)
-    → (u : WorkOf) × HeldAt l.era (nodes_of l.map) l.verdicts x y z u (point l.state l.kg l.j l.f l.ids l.kinds l.d l.indices) × Handling (read_signed_key_gen_msg base l.s) (committed_message base l.proposer) l.n l.at w l.i l.c u)
-
-abbrev pub decreases-loop-i : goal.decreases-loop-i
-decreases-loop-i l = l.n - l.i
+    → (u : WorkOf) × HeldAt l.era (nodes_of l.map) l.verdicts x y z u (point l.state l.kg l.j l.f l.ids l.kinds l.d l.indices) × Handling (read_signed_key_gen_msg base l.s) (committed_message base l.proposer) l.n l.at w l.counter l.c u)

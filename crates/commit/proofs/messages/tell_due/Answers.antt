@@ -10,17 +10,8 @@ returns-then-n-lt-LIMIT c =
       omega (arith, b),
     )
 
-pub returns-in-Quiet : goal.returns-in-Quiet
-returns-in-Quiet c = ((λ era ds old h. rw c.in-Quiet.is h), c.requires)
-
 pub returns-else-n-lt-LIMIT : goal.returns-else-n-lt-LIMIT
 returns-else-n-lt-LIMIT c =
     let a = c.args in
     let q = c.requires in
     ((λ era ds old h. rw c.in-Owed.is (due_full era ds a.n old a.indices.now h c.in-Owed.i q c.if-n-lt-LIMIT.false)), q)
-
-pub returns-in-BlamedProposer : goal.returns-in-BlamedProposer
-returns-in-BlamedProposer c = ((λ era ds old h. rw c.in-BlamedProposer.is h), c.requires)
-
-pub returns-in-BlamedSigner : goal.returns-in-BlamedSigner
-returns-in-BlamedSigner c = ((λ era ds old h. rw c.in-BlamedSigner.is h), c.requires)

@@ -1,6 +1,5 @@
 use mathlib.Core.Path.{◌≡◌}
-use Prim.Native.Nat.{◌≤◌, ◌-◌}
-use lib.ListN.{length, drop}
+use lib.ListN.{drop}
 use Rattle.bincode.specs.Items.{foldl}
 use Rattle.bincode.specs.Sizes.{base}
 use Rattle.signed_votes.specs.SignedVotes.{votes_of}
@@ -12,8 +11,4 @@ use Rattle.commit.proofs.voting.put_votes.Given as goal
 
 abbrev pub invariant-loop-i : goal.invariant-loop-i
 invariant-loop-i l =
-    (l.i ≤ l.n) × (l.n ≤ base.nodes) × (l.n ≡ length (entries_of l.t))
-    × (foldl (put_in base l.s) (counter_of l.counter) (entries_of l.t) ≡ foldl (put_in base l.s) (after base (counter_of l.counter) (votes_of l.votes) l.taken) (drop l.i (entries_of l.t)))
-
-abbrev pub decreases-loop-i : goal.decreases-loop-i
-decreases-loop-i l = l.n - l.i
+    foldl (put_in base l.s) (counter_of l.counter) (entries_of l.t) ≡ foldl (put_in base l.s) (after base (counter_of l.counter) (votes_of l.votes) l.taken) (drop l.i (entries_of l.t))

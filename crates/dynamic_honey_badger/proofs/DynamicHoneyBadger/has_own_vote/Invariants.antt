@@ -1,7 +1,6 @@
 use mathlib.Core.Path.{◌≡◌}
-use Prim.Native.Nat.{◌≤◌, ◌-◌}
+use Prim.Native.Nat.{◌≤◌}
 use lib.ListN.{length, drop}
-use Rattle.bincode.specs.Sizes.{base}
 use Rattle.vote_counter.specs.VoteCounter.{counter_of, pending_votes}
 use Rattle.dynamic_honey_badger.specs.Asked.{some_by}
 use Rattle.dynamic_honey_badger.proofs.DynamicHoneyBadger.has_own_vote.Given as goal
@@ -9,7 +8,4 @@ use Rattle.dynamic_honey_badger.proofs.DynamicHoneyBadger.has_own_vote.Given as 
 abbrev pub invariant-loop-place : goal.invariant-loop-place
 invariant-loop-place l =
     let vs = pending_votes (counter_of l.counter) in
-    (l.place ≤ l.n) × (l.n ≤ base.nodes) × (length vs ≤ l.n) × (some_by l.counter.our_id vs ≡ some_by l.counter.our_id (drop l.place vs))
-
-abbrev pub decreases-loop-place : goal.decreases-loop-place
-decreases-loop-place l = l.n - l.place
+    (length vs ≤ l.place-end) × (some_by l.counter.our_id vs ≡ some_by l.counter.our_id (drop l.place vs))

@@ -1,4 +1,4 @@
-use mathlib.Core.Path.{refl, ◌≡◌, sym, ap, ◌∙◌}
+use mathlib.Core.Path.{◌≡◌, sym, ap, ◌∙◌}
 use lib.ListN.{length}
 use Rattle.bincode.specs.Sizes.{base}
 use Rattle.pub_key_map.specs.PubKeyMap.{nodes_of}
@@ -15,11 +15,11 @@ returns-then-is_map_in_progress c =
     let s = state_of a.self in
     let j = join_map base a.our_id a.era s a.state (sym c.is_map_in_progress.ensures ∙ c.if-is_map_in_progress.true) in
     let e : ◌≡◌ {A = JoinAnswer} (record { state = with_key_gen s (running.state_of c.new-self.result); due = c.due_part.result }) (record { state = key_gen_for base (nodes_of m) s; due = length (part_due (nodes_of m) a.our_id a.era) }) = λ i. record { state = key_gen_begun a.self m _ c.new-self.result c.new.ensures c.new-self.ensures i; due = c.due_part.ensures.0 i } in
-    (refl, e ∙ ap numbered (sym j), due_same a.kinds.now _ a.indices.now _ a.eras.now _ _ _ (ap (λ (x : Joined). x.due) (sym j)) c.due_part.ensures.1)
+    (e ∙ ap numbered (sym j), due_same a.kinds.now _ a.indices.now _ a.eras.now _ _ _ (ap (λ (x : Joined). x.due) (sym j)) c.due_part.ensures.1)
 
 pub returns : goal.returns
 returns c =
     let a = c.args in
     let s = state_of a.self in
     let j = join_other base a.our_id a.era s a.state (sym c.is_map_in_progress.ensures ∙ c.if-is_map_in_progress.false) in
-    (refl, ap numbered (sym j), due_same a.kinds.now _ a.indices.now _ a.eras.now _ _ _ (ap (λ (x : Joined). x.due) (sym j)) (due_none a.kinds.now a.indices.now a.eras.now))
+    (ap numbered (sym j), due_same a.kinds.now _ a.indices.now _ a.eras.now _ _ _ (ap (λ (x : Joined). x.due) (sym j)) (due_none a.kinds.now a.indices.now a.eras.now))

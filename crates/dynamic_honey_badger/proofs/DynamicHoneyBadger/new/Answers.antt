@@ -1,22 +1,22 @@
 use mathlib.Core.Path.{sym, ap, ◌∙◌}
-use Rattle.joining.specs.Starting.{said_start}
-use Rattle.joining.proofs.StartLaws.{accepted_not_refused}
+use Rattle.bincode.specs.Answer.{outcome_as_said}
+use Rattle.bincode.specs.Outcome.{Outcome, done}
+use Rattle.joining.specs.Starting.{start_of}
+use Rattle.joining.proofs.RowLaws.{exit_outcome}
 use Rattle.dynamic_honey_badger.specs.declared.DynamicHoneyBadger.{DynamicHoneyBadger}
-use Rattle.dynamic_honey_badger.specs.State.{state_of, started_from, started}
-use Rattle.dynamic_honey_badger.proofs.StateLaws.{start_said, start_denied}
+use Rattle.dynamic_honey_badger.specs.State.{StateOf, state_of, started_from, started}
 use Rattle.dynamic_honey_badger.proofs.DynamicHoneyBadger.new.Goals as goal
 
-pub returns-in-Accepted : goal.returns-in-Accepted
+pub returns-in_err-pub_keys : goal.returns-in_err-pub_keys
 unfolding started
-returns-in-Accepted c =
+returns-in_err-pub_keys c =
     let a = c.args in
-    let r = c.check_starting-c in
-    let o = r.result.outcome in
-    (ap (λ (s : DynamicHoneyBadger). said_start o (state_of s)) c.open.ensures ∙ start_said a.our_id a.secret_key a.era o _ ∙ ap (started_from a.our_id a.secret_key a.era) r.ensures.0, λ n e. absurd (accepted_not_refused n (sym c.in-Accepted.is ∙ e)))
+    let p = exit_outcome start_of state_of _ _ c.check_starting.ensures _ c.in_err-pub_keys.was _ c.from_residual.ensures.1 in
+    p.2 ∙ sym (ap (started_from a.our_id a.secret_key a.era) p.1)
 
-pub returns-in-Refused : goal.returns-in-Refused
+pub returns : goal.returns
 unfolding started
-returns-in-Refused c =
+returns c =
     let a = c.args in
-    let r = c.check_starting-c in
-    (start_denied a.our_id a.secret_key a.era _ r.result.outcome _ _ c.in-Refused.is ∙ ap (started_from a.our_id a.secret_key a.era) r.ensures.0, λ n e. rw (c.not_opened.ensures, e))
+    ap {B = Outcome StateOf} (λ (d : DynamicHoneyBadger). done (state_of d)) c.open.ensures
+    ∙ ap (started_from a.our_id a.secret_key a.era) (sym (ap (outcome_as_said start_of) c.in_ok-pub_keys.was) ∙ c.check_starting.ensures)

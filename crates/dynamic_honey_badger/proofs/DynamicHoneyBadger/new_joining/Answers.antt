@@ -7,24 +7,22 @@ use Rattle.dynamic_honey_badger.specs.State.{state_of, Joined, joined_by, joined
 use Rattle.dynamic_honey_badger.proofs.JoinLaws.{joined_lent, refused_lent}
 use Rattle.dynamic_honey_badger.proofs.DynamicHoneyBadger.new_joining.Goals as goal
 
-pub returns-in-Accepted : goal.returns-in-Accepted
-unfolding joined_with
-returns-in-Accepted c =
+pub returns-in_err-read : goal.returns-in_err-read
+returns-in_err-read c =
     let a = c.args in
-    let r = c.check_joining-c in
-    let p = plan_of r.result.plan in
+    refused_lent base a.our_id a.secret_key _ a.plan.now a.due_kinds.now a.due_indices.now a.due_eras.now
+    (places_counted a.due_kinds.now a.due_indices.now a.due_eras.now _ _ c.shorter_of-shorter.ensures c.shorter_of-due_places.ensures)
+    _ c.check_joining.ensures _ c.in_err-read.was _ c.from_residual.ensures.1
+
+pub returns : goal.returns
+unfolding joined_with
+returns c =
+    let a = c.args in
+    let p = plan_of c.in_ok-read.read in
     let j = c.join in
     let opens = ap (λ (s : DynamicHoneyBadger). joined_by base a.our_id p.era p.change (state_of s)) c.open-state.ensures in
     joined_lent base a.our_id a.secret_key _ a.plan.now a.due_kinds.now a.due_indices.now a.due_eras.now
     (places_counted a.due_kinds.now a.due_indices.now a.due_eras.now _ _ c.shorter_of-shorter.ensures c.shorter_of-due_places.ensures)
-    r.result.outcome p r.ensures.0 c.in-Accepted.is j.result _ _ _ j.ensures.0
-    (j.ensures.1 ∙ ap numbered opens)
-    (due_same a.due_kinds.now _ a.due_indices.now _ a.due_eras.now _ _ _ (ap (λ (x : Joined). x.due) opens) j.ensures.2)
-
-pub returns-in-Refused : goal.returns-in-Refused
-returns-in-Refused c =
-    let a = c.args in
-    let r = c.check_joining-c in
-    refused_lent base a.our_id a.secret_key _ a.plan.now a.due_kinds.now a.due_indices.now a.due_eras.now
-    (places_counted a.due_kinds.now a.due_indices.now a.due_eras.now _ _ c.shorter_of-shorter.ensures c.shorter_of-due_places.ensures)
-    r.result.outcome (plan_of r.result.plan) r.ensures.0 _ c.in-Refused.is _ c.not_opened-state.ensures
+    _ c.check_joining.ensures c.in_ok-read.read c.in_ok-read.was j.result _ _ _
+    (j.ensures.0 ∙ ap numbered opens)
+    (due_same a.due_kinds.now _ a.due_indices.now _ a.due_eras.now _ _ _ (ap (λ (x : Joined). x.due) opens) j.ensures.1)

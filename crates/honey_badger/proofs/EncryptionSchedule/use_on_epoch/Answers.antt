@@ -1,24 +1,14 @@
 use Prim.Native.Nat.{◌<◌}
-use mathlib.Core.Path.{◌≡◌, sym, ap, ◌∙◌, subst}
+use mathlib.Core.Path.{sym, ap, ◌∙◌, subst}
 use mathlib.Core.Logic.{⊎_elim}
-use borrow.Author.Tests.{lt-ltb, le-ltb}
-use Rattle.bincode.specs.Outcome.{done}
-use Rattle.honey_badger.specs.EncryptionSchedule.{is_below, use_on_epoch}
+use Rattle.honey_badger.specs.EncryptionSchedule.{is_below}
 use Rattle.honey_badger.proofs.ScheduleLaws.{use_zero, use_long}
 use Rattle.honey_badger.proofs.CycleLaws.{use_told}
 use Rattle.honey_badger.proofs.EncryptionSchedule.use_on_epoch.Goals as goal
 
-pub returns-then-epoch-period : goal.returns-then-epoch-period
+pub returns : goal.returns
 unfolding is_below
-returns-then-epoch-period c =
-    let below : let a = c.args in let r = c.cycle-c.result in use_on_epoch a.self a.epoch ≡ done (is_below r.period r.bound a.epoch) = use_told _ _ _ c.cycle-c.ensures c.if-period-eq0.false c.if-period-gt-LONGEST.false in
-    sym (below ∙ ap done (lt-ltb _ _ c.if-epoch-period.true))
-
-pub returns-else-epoch-period : goal.returns-else-epoch-period
-unfolding is_below
-returns-else-epoch-period c =
-    let below : let a = c.args in let r = c.cycle-c.result in use_on_epoch a.self a.epoch ≡ done (is_below r.period r.bound a.epoch) = use_told _ _ _ c.cycle-c.ensures c.if-period-eq0.false c.if-period-gt-LONGEST.false in
-    sym (below ∙ ap done (le-ltb _ _ c.if-epoch-period.false))
+returns c = sym (use_told _ _ _ c.cycle-c.ensures c.if-period-eq0.false c.if-period-gt-LONGEST.false)
 
 -- row 14
 pub returns-then-period-eq0 : goal.returns-then-period-eq0

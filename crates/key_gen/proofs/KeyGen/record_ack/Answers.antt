@@ -1,3 +1,4 @@
+use Rattle.std.proofs.Common.{rules}
 use mathlib.Core.Path.{◌≡◌, refl, sym, ◌∙◌}
 use mathlib.Core.Bool.{true, false}
 use native.Mathlib.Omega.{arith}
@@ -10,16 +11,14 @@ use Rattle.key_gen.proofs.KeyGen.record_ack.Goals as goal
 
 pub returns-then-observes : goal.returns-then-observes
 returns-then-observes c q e =
-    let long : length c.args.self.proposals ≡ base.nodes = c.well_formed.0.1.1.1.1.0.1.0.1 in
-    let l = long in
+    let l : length c.args.self.proposals ≡ base.nodes = search rules in
     told_ack (key_gen_of c.args.self) c.args.verdict _ _ true (sym c.observes-observes.ensures ∙ c.if-observes.true) q c.args.j
     (part_acked c.args.self.proposals c.args.i c.acknowledge-q.result q c.args.j false (omega arith) e c.acknowledge-q.ensures)
     refl
 
 pub returns : goal.returns
 returns c q e =
-    let long : length c.args.self.proposals ≡ base.nodes = c.well_formed.0.1.1.1.1.0.1.0.1 in
-    let l = long in
+    let l : length c.args.self.proposals ≡ base.nodes = search rules in
     told_ack (key_gen_of c.args.self) c.args.verdict _ _ false (sym c.observes-observes.ensures ∙ c.if-observes.false) q c.args.j
     (part_acked c.args.self.proposals c.args.i c.acknowledge-q-2.result q c.args.j (eqb c.args.verdict 0) (omega arith) e c.acknowledge-q-2.ensures)
     (sym c.value_outcome.ensures)

@@ -1,3 +1,4 @@
+use Rattle.std.proofs.Common.{rules}
 use mathlib.Core.Path.{◌≡◌, refl, sym, ◌∙◌}
 use native.Mathlib.Omega.{arith}
 use lib.ListN.{length}
@@ -9,16 +10,14 @@ use Rattle.key_gen.proofs.KeyGen.record_part.Goals as goal
 
 pub returns-then-observes : goal.returns-then-observes
 returns-then-observes c =
-    let long : length c.args.self.proposals ≡ base.nodes = c.well_formed.0.1.1.1.1.0.1.0.1 in
-    let l = long in
+    let l : length c.args.self.proposals ≡ base.nodes = search rules in
     told_part (key_gen_of c.args.self) c.args.verdict _ _ true (sym c.observes-observes.ensures ∙ c.if-observes.true) c.args.i c.args.commit
     (part_new c.args.self.proposals c.args.i c.args.commit c.empty-p.result (omega arith) c.empty-p.ensures)
     refl
 
 pub returns : goal.returns
 returns c =
-    let long : length c.args.self.proposals ≡ base.nodes = c.well_formed.0.1.1.1.1.0.1.0.1 in
-    let l = long in
+    let l : length c.args.self.proposals ≡ base.nodes = search rules in
     told_part (key_gen_of c.args.self) c.args.verdict _ _ false (sym c.observes-observes.ensures ∙ c.if-observes.false) c.args.i c.args.commit
     (part_new c.args.self.proposals c.args.i c.args.commit c.empty-p.result (omega arith) c.empty-p.ensures)
     (sym c.row_outcome.ensures)

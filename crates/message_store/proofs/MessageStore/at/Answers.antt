@@ -1,4 +1,3 @@
-use mathlib.Core.Bool.{true≢false}
 use mathlib.Core.Path.{sym}
 use native.Mathlib.Omega.{arith}
 use lib.ListN.{length-map}
@@ -10,9 +9,9 @@ use Rattle.message_store.proofs.MessageStore.at.Goals as goal
 pub returns-then-place-len : goal.returns-then-place-len
 returns-then-place-len c =
     let s = c.args.self in
-    (sym (at_held signed_of s.messages s.count c.args.place _ (omega (arith, c.len.ensures.0, length-map (held s) signed_of, c.if-place-len.true))), λ e. absurd (true≢false e))
+    sym (at_held signed_of s.messages s.count c.args.place _ (omega (arith, c.len.ensures.0, length-map (held s) signed_of, c.if-place-len.true)))
 
 pub returns : goal.returns
 returns c =
     let s = c.args.self in
-    (sym (at_past (store_of s) c.args.place (omega (arith, c.len.ensures.0, c.if-place-len.false))), λ e. rw c.empty.ensures)
+    sym (at_past (store_of s) c.args.place (omega (arith, c.len.ensures.0, c.if-place-len.false)))

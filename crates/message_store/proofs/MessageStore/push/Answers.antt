@@ -5,9 +5,10 @@ use lib.ListN.{length, length-map}
 use Rattle.lists.proofs.ListLaws.{append_live}
 use Rattle.bincode.specs.Sizes.{base}
 use Rattle.bincode.specs.Outcome.{done}
+use Rattle.bincode.proofs.ReadLaws.{cross}
 use Rattle.key_gen_message.specs.KeyGenMessage.{signed_of}
 use Rattle.message_store.specs.MessageStore.{held, store_of}
-use Rattle.message_store.proofs.StoreLaws.{push_full, push_room, stored_not_refused}
+use Rattle.message_store.proofs.StoreLaws.{push_full, push_room}
 use Rattle.message_store.proofs.MessageStore.push.Goals as goal
 
 pub returns-then-held-lt-LIMIT : goal.returns-then-held-lt-LIMIT
@@ -18,7 +19,7 @@ returns-then-held-lt-LIMIT c =
     let m = c.args.m in
     let n = c.len-held.result in
     let last = append_live s.messages s.count base.store n m (places) (counted) (omega (arith, c.if-held-lt-LIMIT.true)) in
-    (ap done (ap (map signed_of) last ∙ map-append signed_of (held s) (m ∷ [])) ∙ sym (push_room base (store_of s) (signed_of m) (omega (arith, c.len-held.ensures.0, c.if-held-lt-LIMIT.true))), λ k e. absurd (stored_not_refused k e))
+    (ap done (ap (map signed_of) last ∙ map-append signed_of (held s) (m ∷ [])) ∙ sym (push_room base (store_of s) (signed_of m) (omega (arith, c.len-held.ensures.0, c.if-held-lt-LIMIT.true))), λ k e. absurd (cross e))
 
 pub returns : goal.returns
 returns c =

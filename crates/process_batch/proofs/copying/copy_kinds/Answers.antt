@@ -1,35 +1,6 @@
-use lib.ListN.{take}
-use Rattle.process_batch.proofs.CopyLaws.{put_start, put_length, copy_from, copy_place, copy_turn, copy_end}
+use native.Mathlib.Omega.{arith}
+use Rattle.process_batch.proofs.CopyLaws.{copied}
 use Rattle.process_batch.proofs.copying.copy_kinds.Goals as goal
 
-pub loop-i-init : goal.loop-i-init
-loop-i-init c = put_start (take c.args.n c.args.from.now) c.args.to.now
-
-pub bounds-from-i : goal.bounds-from-i
-bounds-from-i c =
-    let a = c.args in
-    let l = c.loop-i in
-    copy_from a.from.now a.to.now a.n _ c.shorter_of-end.result c.shorter_of.ensures c.shorter_of-end.ensures l.i c.loop-i-test.true
-
-pub bounds-to-i : goal.bounds-to-i
-bounds-to-i c =
-    let a = c.args in
-    let l = c.loop-i in
-    copy_place a.from.now a.to.now a.n _ c.shorter_of-end.result c.shorter_of.ensures c.shorter_of-end.ensures l.i l.to l.invariant c.loop-i-test.true
-
-pub loop-i-preserved : goal.loop-i-preserved
-loop-i-preserved c =
-    let a = c.args in
-    let l = c.loop-i in
-    copy_turn a.from.now a.to.now a.n _ c.shorter_of-end.result c.shorter_of.ensures c.shorter_of-end.ensures l.i l.to l.invariant _ c.loop-i-test.true
-
-pub shape_of-to : goal.shape_of-to
-shape_of-to c =
-    let a = c.args in
-    put_length (take a.n a.from.now) a.to.now c.loop-i.i c.loop-i.to c.loop-i.invariant
-
 pub returns : goal.returns
-returns c =
-    let a = c.args in
-    let l = c.loop-i in
-    copy_end a.from.now a.to.now a.n _ c.shorter_of-end.result c.shorter_of.ensures c.shorter_of-end.ensures l.i l.to l.invariant c.loop-i-test.false
+returns c = copied c.args.from.now c.args.to.now _ c.args.n _ (omega (arith, c.min.ensures, c.min-end.ensures)) c.copy_from_slice.ensures.after

@@ -1,29 +1,6 @@
-use lib.ListN.{replicate}
-use Rattle.process_batch.proofs.CopyLaws.{put_start, put_length, fill_place, fill_turn, fill_end}
+use native.Mathlib.Omega.{arith}
+use Rattle.process_batch.proofs.CopyLaws.{filled_with}
 use Rattle.process_batch.proofs.copying.fill_kinds.Goals as goal
 
-pub loop-i-init : goal.loop-i-init
-loop-i-init c = put_start (replicate c.args.n c.args.x) c.args.to.now
-
-pub bounds-to-i : goal.bounds-to-i
-bounds-to-i c =
-    let a = c.args in
-    let l = c.loop-i in
-    fill_place a.x a.to.now a.n _ c.shorter_of-end.ensures l.i l.to l.invariant c.loop-i-test.true
-
-pub loop-i-preserved : goal.loop-i-preserved
-loop-i-preserved c =
-    let a = c.args in
-    let l = c.loop-i in
-    fill_turn a.x a.to.now a.n _ c.shorter_of-end.ensures l.i l.to l.invariant c.loop-i-test.true
-
-pub shape_of-to : goal.shape_of-to
-shape_of-to c =
-    let a = c.args in
-    put_length (replicate a.n a.x) a.to.now c.loop-i.i c.loop-i.to c.loop-i.invariant
-
 pub returns : goal.returns
-returns c =
-    let a = c.args in
-    let l = c.loop-i in
-    fill_end a.x a.to.now a.n _ c.shorter_of-end.ensures l.i l.to l.invariant c.loop-i-test.false
+returns c = filled_with c.args.x c.args.to.now _ c.args.n _ (omega (arith, c.min-end.ensures)) (c.fill.ensures.after (λ y e. e))

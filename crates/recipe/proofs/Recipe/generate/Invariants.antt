@@ -1,7 +1,6 @@
 use mathlib.Core.Path.{◌≡◌}
 use mathlib.Core.List.{map}
 use mathlib.Core.Bool.{◌||◌}
-use Prim.Native.Nat.{◌≤◌, ◌-◌}
 use lib.ListN.{drop}
 use Rattle.bincode.specs.Sizes.{base}
 use Rattle.recipe.specs.Recipe.{no_share, some_short}
@@ -12,9 +11,5 @@ use Rattle.recipe.proofs.Recipe.generate.Given as goal
 
 abbrev pub invariant-loop-i : goal.invariant-loop-i
 invariant-loop-i l =
-    (l.i ≤ base.nodes)
-    × Filled base.nodes no_share l.shares l.i (map (share_for l.t) (drop l.i l.g.proposals)) (map (share_for l.t) l.g.proposals)
+    Filled base.nodes no_share l.shares l.i (map (share_for l.t) (drop l.i l.g.proposals)) (map (share_for l.t) l.g.proposals)
     × ((l.short || some_short l.t (parts_from l.t l.i (drop l.i l.g.proposals))) ≡ some_short l.t (parts_from l.t 0 l.g.proposals))
-
-abbrev pub decreases-loop-i : goal.decreases-loop-i
-decreases-loop-i l = base.nodes - l.i

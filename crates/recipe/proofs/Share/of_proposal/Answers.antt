@@ -2,10 +2,10 @@ use mathlib.Core.Path.{sym, ◌∙◌}
 use Rattle.recipe.specs.Places.{share_for}
 use Rattle.recipe.proofs.Share.of_proposal.Goals as goal
 
-pub returns-then-is_complete : goal.returns-then-is_complete
+pub returns-then-not-is_complete : goal.returns-then-not-is_complete
 unfolding share_for
-returns-then-is_complete c = rw (sym c.is_complete.ensures ∙ c.if-is_complete.true, c.first-used.ensures)
+returns-then-not-is_complete c = rw (sym c.is_complete.ensures ∙ c.if-not-is_complete.true) c.empty.ensures
 
 pub returns : goal.returns
 unfolding share_for
-returns c = rw (sym c.is_complete.ensures ∙ c.if-is_complete.false) c.empty.ensures
+returns c = rw (sym c.is_complete.ensures ∙ c.if-not-is_complete.false, c.first.ensures)

@@ -1,34 +1,33 @@
-use Rattle.std.proofs.Common.{rules}
-use mathlib.Core.Path.{refl, sym, ◌∙◌}
-use native.Mathlib.Omega.{arith}
-use lib.ListN.{length-map}
-use Rattle.lists.proofs.ListLaws.{rest_more}
+use mathlib.Core.Path.{refl, sym, ap, ◌∙◌}
+use mathlib.Core.List.{List}
+use lib.ListN.{take}
+use Rattle.lists.specs.Lists.{lookup}
 use Rattle.lists.proofs.SortedLaws.{lookup_hit, lookup_miss, lookup_end}
-use Rattle.votes.specs.Votes.{signed_of}
-use Rattle.signed_votes.specs.SignedVotes.{held, voter_in}
-use Rattle.signed_votes.proofs.VotesLaws.{held_num}
+use Rattle.votes.specs.declared.SignedVote.{SignedVote}
+use Rattle.signed_votes.specs.SignedVotes.{voter_in}
+use Rattle.signed_votes.proofs.VotesLaws.{held_num, next_one, live}
 use Rattle.signed_votes.proofs.SignedVotes.num_of.Goals as goal
 
-pub loop-i-init : goal.loop-i-init
-loop-i-init c = (search rules, c.len-n.ensures.1, c.len-n.ensures.0 ∙ length-map (held c.args.self) signed_of, refl)
+pub loop-x-init : goal.loop-x-init
+loop-x-init c = refl
 
 pub returns-then-x-voter : goal.returns-then-x-voter
 returns-then-x-voter c =
     let t = c.args.self in
-    let i = c.loop-i.i in
-    let v = c.loop-i.invariant in
-    sym (held_num t _ _ (v.3 ∙ lookup_hit voter_in c.args.voter (held t) i _ (rest_more t.votes t.count i _ (omega (arith, v.2, c.loop-i-test.true))) c.if-x-voter.true))
+    let k = c.args.voter in
+    let xs = take c.len.result t.votes in
+    let hit = c.loop-x.invariant ∙ lookup_hit voter_in k xs c.loop-x.x-index _ (next_one xs c.loop-x.x-index _ c.loop-x-test.true) c.if-x-voter.true in
+    sym (held_num t k _ (ap (λ (ys : List SignedVote). lookup voter_in ys k) (sym (live t c.len.result c.len.ensures.0)) ∙ hit))
 
-pub loop-i-preserved : goal.loop-i-preserved
-loop-i-preserved c =
-    let t = c.args.self in
-    let i = c.loop-i.i in
-    let v = c.loop-i.invariant in
-    (search rules, v.1, v.2, v.3 ∙ lookup_miss voter_in c.args.voter (held t) i _ (rest_more t.votes t.count i _ (omega (arith, v.2, c.loop-i-test.true))) c.if-x-voter.false)
+pub loop-x-preserved : goal.loop-x-preserved
+loop-x-preserved c =
+    let xs = take c.len.result c.args.self.votes in
+    c.loop-x.invariant ∙ lookup_miss voter_in c.args.voter xs c.loop-x.x-index _ (next_one xs c.loop-x.x-index _ c.loop-x-test.true) c.if-x-voter.false
 
 pub returns : goal.returns
 returns c =
     let t = c.args.self in
-    let i = c.loop-i.i in
-    let v = c.loop-i.invariant in
-    sym (held_num t _ _ (v.3 ∙ lookup_end voter_in c.args.voter (held t) i (omega (arith, v.2, c.loop-i-test.false))))
+    let k = c.args.voter in
+    let xs = take c.len.result t.votes in
+    let none = c.loop-x.invariant ∙ lookup_end voter_in k xs c.loop-x.x-index c.loop-x-test.false in
+    sym (held_num t k _ (ap (λ (ys : List SignedVote). lookup voter_in ys k) (sym (live t c.len.result c.len.ensures.0)) ∙ none))

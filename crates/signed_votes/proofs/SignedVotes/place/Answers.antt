@@ -1,17 +1,25 @@
-use Rattle.std.proofs.Common.{rules}
-use mathlib.Core.Path.{refl, sym, ◌∙◌}
-use Prim.Native.Nat.{◌≤◌, ◌+◌}
+use mathlib.Core.Path.{◌≡◌, refl, ◌∙◌}
+use Prim.Native.Nat.{◌≤◌}
 use native.Mathlib.Omega.{arith}
-use lib.ListN.{length, length-map}
+use borrow.Author.Tests.{eq-eqb, ne_eqb}
+use lib.ListN.{length}
 use Rattle.lists.proofs.ListLaws.{rest_more}
 use Rattle.lists.proofs.SortedLaws.{below_more, below_stop, below_end}
-use Rattle.votes.specs.Votes.{signed_of}
 use Rattle.signed_votes.specs.SignedVotes.{held, voter_in}
-use Rattle.signed_votes.proofs.VotesLaws.{has_more, has_stop, has_end}
+use Rattle.signed_votes.proofs.VotesLaws.{under, counted, has_more, has_stop, has_end}
 use Rattle.signed_votes.proofs.SignedVotes.place.Goals as goal
 
 pub loop-i-init : goal.loop-i-init
-loop-i-init c = (search rules, c.len-n.ensures.1, c.len-n.ensures.0 ∙ length-map (held c.args.self) signed_of, omega arith, refl)
+loop-i-init c = (omega arith, refl)
+
+pub returns-then-x-voter : goal.returns-then-x-voter
+returns-then-x-voter c =
+    let a = c.args in
+    let t = a.self in
+    let i = c.loop-i.i in
+    let v = c.loop-i.invariant in
+    let more = rest_more t.votes t.count i _ (omega (arith, counted t _ c.len-n.ensures.0, c.loop-i-test.true)) in
+    rw (v.1 ∙ has_stop voter_in a.voter (held t) i _ more (omega (arith, c.if-x-voter.true)) ∙ eq-eqb _ _ c.if-x-voter.true, v.0 ∙ below_stop voter_in a.voter (held t) i _ more (omega (arith, c.if-x-voter.true)))
 
 pub returns-then-voter-x : goal.returns-then-voter-x
 returns-then-voter-x c =
@@ -19,9 +27,8 @@ returns-then-voter-x c =
     let t = a.self in
     let i = c.loop-i.i in
     let v = c.loop-i.invariant in
-    let more = rest_more t.votes t.count i _ (omega (arith, v.2, c.loop-i-test.true)) in
-    let stop = c.if-voter-x.true in
-    (sym (v.3 ∙ below_stop voter_in a.voter (held t) i _ more stop), omega (arith, v.2, v.0), sym (v.4 ∙ has_stop voter_in a.voter (held t) i _ more stop))
+    let more = rest_more t.votes t.count i _ (omega (arith, counted t _ c.len-n.ensures.0, c.loop-i-test.true)) in
+    rw (v.1 ∙ has_stop voter_in a.voter (held t) i _ more (omega (arith, c.if-voter-x.true)) ∙ ne_eqb _ _ c.if-x-voter.false, v.0 ∙ below_stop voter_in a.voter (held t) i _ more (omega (arith, c.if-voter-x.true)))
 
 pub loop-i-preserved : goal.loop-i-preserved
 loop-i-preserved c =
@@ -29,9 +36,8 @@ loop-i-preserved c =
     let t = a.self in
     let i = c.loop-i.i in
     let v = c.loop-i.invariant in
-    let step : i + 1 ≤ c.len-n.result = omega (arith, c.loop-i-test.true) in
-    let more = rest_more t.votes t.count i _ (omega (arith, v.2, c.loop-i-test.true)) in
-    (step, v.1, v.2, v.3 ∙ below_more voter_in a.voter (held t) i _ more c.if-voter-x.false, v.4 ∙ has_more voter_in a.voter (held t) i _ more c.if-voter-x.false)
+    let more = rest_more t.votes t.count i _ (omega (arith, counted t _ c.len-n.ensures.0, c.loop-i-test.true)) in
+    (v.0 ∙ below_more voter_in a.voter (held t) i _ more (under c.if-x-voter.false c.if-voter-x.false), v.1 ∙ has_more voter_in a.voter (held t) i _ more (under c.if-x-voter.false c.if-voter-x.false))
 
 pub returns : goal.returns
 returns c =
@@ -39,5 +45,6 @@ returns c =
     let t = a.self in
     let i = c.loop-i.i in
     let v = c.loop-i.invariant in
-    let end : length (held t) ≤ i = omega (arith, v.2, c.loop-i-test.false) in
-    (sym (v.3 ∙ below_end voter_in a.voter (held t) i end), omega (arith, v.2, v.0), sym (v.4 ∙ has_end voter_in a.voter (held t) i end))
+    let e : i ≡ c.len-n.result = omega arith in
+    let end : length (held t) ≤ i = omega (arith, counted t _ c.len-n.ensures.0) in
+    rw (v.1 ∙ has_end voter_in a.voter (held t) i end, v.0 ∙ below_end voter_in a.voter (held t) i end, e)

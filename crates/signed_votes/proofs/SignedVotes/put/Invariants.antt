@@ -7,7 +7,4 @@ use Rattle.signed_votes.proofs.SignedVotes.put.Given as goal
 
 abbrev pub invariant-loop-j : goal.invariant-loop-j
 invariant-loop-j l =
-    (l.at ≤ l.j) × (l.j ≤ l.n) × (l.n < base.nodes) × (length l.self.votes ≡ base.nodes) × (h : l.n < length l.initial.self.votes) × Shifted l.initial.self.votes l.n h l.j l.self.votes
-
-abbrev pub decreases-loop-j : goal.decreases-loop-j
-decreases-loop-j l = l.j
+    (l.at ≤ l.j) × (l.n < base.nodes) × (length l.self.votes ≡ base.nodes) × (h : l.n < length l.initial.self.votes) × Shifted l.initial.self.votes l.n h l.j l.self.votes

@@ -1,6 +1,7 @@
 use Rattle.std.proofs.Common.{rules}
-use Rattle.lists.specs.Lists.{found, map_found}
-use Rattle.vote_counter.specs.declared.Winner.{Winner}
+use Rattle.lists.specs.Lists.{found, map_found, option_as_found}
+use Rattle.std.specs.Prelude.{Some}
+use Rattle.std.specs.declared.option.Option.{Option}
 use mathlib.Core.Path.{◌≡◌, refl, sym, ap, ◌∙◌}
 use native.Mathlib.Omega.{arith}
 use Prim.Native.Nat.{ℕ, ◌+◌, ◌≤◌, ◌<◌}
@@ -12,9 +13,8 @@ use Rattle.votes.specs.Votes.{no_signed, SignedVoteOf, signed_of}
 use Rattle.signed_votes.specs.SignedVotes.{votes_of}
 use Rattle.signed_votes.specs.declared.SignedVotes.{SignedVotes}
 use Rattle.vote_counter.specs.VoteCounter.{compute_winner, winner_at, counter_of}
-use Rattle.vote_counter.specs.Answers.{choice_at, said_winner}
+use Rattle.vote_counter.specs.Answers.{choice_at}
 use Rattle.vote_counter.specs.declared.VoteCounter.{VoteCounter}
-use Rattle.vote_counter.specs.declared.Winner.TheVariants.{Voter}
 use Rattle.lists.proofs.ViewLaws.{view_at}
 use Rattle.winner.proofs.SupportTurns.{count_yes, count_no}
 use Rattle.vote_counter.proofs.WinnerTurns.{voter_wins, voter_loses, voters_end}
@@ -29,11 +29,12 @@ choice-held : (t : SignedVotes) (i : ℕ) (z : SignedVote) → i < length (votes
 choice-held t i z l = sym (ap (λ (v : SignedVoteOf). v.vote.change) (view_at signed_of t.votes t.count i l z no_signed)) ∙ sym (get_or-map (λ (v : SignedVoteOf). v.vote.change) (votes_of t) i no_signed)
 
 -- the place that is told fixes the rest
-at_place : (c : VoteCounter) (r : Winner) → said_winner r ≡ winner_at (counter_of c)
-    → (map_found (choice_at (votes_of c.committed)) (said_winner r) ≡ compute_winner (counter_of c))
-    × ((i : ℕ) → said_winner r ≡ found i → i < length (votes_of c.committed))
-    × (said_winner r ≡ winner_at (counter_of c))
-at_place c r e = (ap (map_found (choice_at (votes_of c.committed))) e ∙ winner_chosen (counter_of c), λ i h. ((winner_first (counter_of c) i).0 (sym e ∙ h)).0, e)
+at_place : (c : VoteCounter) (r : Option ℕ) → option_as_found (λ (x : ℕ). x) r ≡ winner_at (counter_of c)
+    → (map_found (choice_at (votes_of c.committed)) (option_as_found (λ (x : ℕ). x) r) ≡ compute_winner (counter_of c))
+    × ((i : ℕ) → r ≡ Some i → i < length (votes_of c.committed))
+    × (option_as_found (λ (x : ℕ). x) r ≡ winner_at (counter_of c))
+at_place c r e =
+    (ap (map_found (choice_at (votes_of c.committed))) e ∙ winner_chosen (counter_of c), λ i h. ((winner_first (counter_of c) i).0 (sym e ∙ ap (option_as_found (λ (x : ℕ). x)) h)).0, e)
 
 -- the votes that are counted for the voter at place i
 module _ (t : SignedVotes) (i : ℕ) (l : i < length (votes_of t)) (z : SignedVote) (j count : ℕ) where
@@ -66,22 +67,22 @@ module _ (t : SignedVotes) (i : ℕ) (l : i < length (votes_of t)) (z : SignedVo
 
 pub voters-init : goal.voters-init
 unfolding winner_place
-voters-init c = (search rules, c.len-n.ensures.1, c.len-n.ensures.0, refl, refl)
+voters-init c = (refl, refl)
 
 pub loop-j-init : goal.loop-j-init
 unfolding support
-loop-j-init c = (search rules, refl, search rules, search rules, refl)
+loop-j-init c = (refl, search rules, search rules, refl)
 
 pub loop-j-preserved : goal.loop-j-preserved
 loop-j-preserved c =
     let x = c.args.self.committed in
     let v = c.loop-j.invariant in
-    let k = c.loop-j-test.true in
-    let l : c.voters.i < length (votes_of x) = omega (arith, c.voters.invariant.2, c.voters-test.true) in
+    let k : c.loop-j.j ≤ c.voters.i = omega (arith, c.loop-j-test.true) in
+    let l : c.voters.i < length (votes_of x) = omega (arith, c.len-n.ensures.0, c.voters-test.true) in
     let e = sym c.is_for.ensures in
     elim c.if-is_for.branch [
-      | then-is_for+else-f-count w ↦ let m = one_more x _ l _ _ _ k v.1 _ (e ∙ w.if-is_for.true) in (omega (arith, k), w.count-is ∙ m, omega (arith, w.count-is, w.if-f-count.false), omega (arith, w.count-is, v.3), v.4)
-      | else-is_for w ↦ let m = no_more x _ l _ _ _ k v.1 _ (e ∙ w.if-is_for.false) in (omega (arith, k), w.count-is ∙ m, omega (arith, w.count-is, v.2), omega (arith, w.count-is, v.3), v.4)
+      | then-is_for+else-f-count w ↦ let m = one_more x _ l _ _ _ k v.0 _ (e ∙ w.if-is_for.true) in (w.count-is ∙ m, omega (arith, w.count-is, w.if-f-count.false), omega (arith, w.count-is, v.2), v.3)
+      | else-is_for w ↦ let m = no_more x _ l _ _ _ k v.0 _ (e ∙ w.if-is_for.false) in (w.count-is ∙ m, omega (arith, w.count-is, v.1), omega (arith, w.count-is, v.2), v.3)
     ]
 
 pub voters-preserved : goal.voters-preserved
@@ -90,9 +91,9 @@ voters-preserved c =
     let u = c.voters.invariant in
     let v = c.loop-j.invariant in
     let i = c.voters.i in
-    let s : c.loop-j.j ≡ i + 1 = omega (arith, v.0, c.loop-j-test.false) in
-    let l : i < length (votes_of x) = omega (arith, u.2, c.voters-test.true) in
-    (search rules, u.1, u.2, v.4 ∙ u.3, u.4 ∙ loses x i l _ _ _ _ s v.1 v.2)
+    let s : c.loop-j.j ≡ i + 1 = omega (arith, c.loop-j-test.false) in
+    let l : i < length (votes_of x) = omega (arith, c.len-n.ensures.0, c.voters-test.true) in
+    (v.3 ∙ u.0, u.1 ∙ loses x i l _ _ _ _ s v.0 v.1)
 
 pub returns-after-voters : goal.returns-after-voters
 unfolding winner_at
@@ -102,20 +103,18 @@ returns-after-voters c =
     at_place
     c.args.self
     _
-    (ap said_winner u.3
-    ∙ sym (rw c.num_faulty-f.ensures at (u.4 ∙ voters_end same_change (choices x) _ c.voters.i (omega (arith, length-map (votes_of x) (λ v. v.vote.change), u.2, c.voters-test.false)))))
+    (ap (option_as_found (λ (x : ℕ). x)) u.0
+    ∙ sym (rw c.num_faulty-f.ensures at (u.1 ∙ voters_end same_change (choices x) _ c.voters.i (omega (arith, length-map (votes_of x) (λ v. v.vote.change), c.len-n.ensures.0, c.voters-test.false)))))
 
 pub returns-then-f-count : goal.returns-then-f-count
 unfolding winner_at
 returns-then-f-count c =
     let x = c.args.self.committed in
     let i = c.voters.i in
-    let u = c.voters.invariant in
-    let v = c.loop-j.invariant in
-    let k = c.loop-j-test.true in
-    let l : i < length (votes_of x) = omega (arith, u.2, c.voters-test.true) in
-    let m = one_more x i l _ _ _ k v.1 _ (sym c.is_for.ensures ∙ c.if-is_for.true) in
+    let k : c.loop-j.j ≤ i = omega (arith, c.loop-j-test.true) in
+    let l : i < length (votes_of x) = omega (arith, c.len-n.ensures.0, c.voters-test.true) in
+    let m = one_more x i l _ _ _ k c.loop-j.invariant.0 _ (sym c.is_for.ensures ∙ c.if-is_for.true) in
     at_place
     c.args.self
-    (Voter i)
-    (sym (rw c.num_faulty-f.ensures at (u.4 ∙ wins x i l _ _ _ _ k m c.if-f-count.true)))
+    (Some i)
+    (sym (rw c.num_faulty-f.ensures at (c.voters.invariant.1 ∙ wins x i l _ _ _ _ k m c.if-f-count.true)))

@@ -1,0 +1,112 @@
+// The calls that fill lent lists, made as a host makes them: the engine is lent the first places of the lists, as many as the line names, and faults and due items are read off them.
+use crate::answers::{map_hex, params_hex, put_due, put_faults, put_recipe, state_hex};
+use crate::lent::{Lists, end_line, lend};
+use crate::parse::{Agreed, Join};
+use crate::text::first;
+use batch::Batch;
+use bincode::Refusal;
+use dynamic_honey_badger::{DynamicHoneyBadger, JoinStarted};
+use process_batch::Report;
+use recipe::Recipe;
+use std::alloc::AllocError;
+
+// A report: its epoch, era, change, map and params.
+fn put_batch(out: &mut String, b: Batch) -> Result<(), AllocError> {
+    let alloc = *out.allocator();
+    let change = state_hex(alloc, b.change)?;
+    let map = map_hex(alloc, b.pub_keys)?;
+    let params = params_hex(alloc, b.params)?;
+    write!(out, "batch {} {} {change} {map} {params}", b.epoch, b.era)
+}
+
+// The first n due items of the lists.
+fn put_due_items(out: &mut String, lists: &Lists, n: usize) -> Result<(), AllocError> {
+    out.push_str(" due ")?;
+    put_due(
+        out,
+        first(&lists.due_kinds, n),
+        first(&lists.indices, n),
+        first(&lists.eras, n),
+    )
+}
+
+// The recipe, where there is one.
+fn put_made(out: &mut String, recipe: Option<Recipe>) -> Result<(), AllocError> {
+    out.push_str(" recipe ")?;
+    match recipe {
+        Some(r) => put_recipe(out, r),
+        None => out.push_str("-"),
+    }
+}
+
+// What a batch that is not refused answers: the report, and beside it faults, due items and the recipe.
+fn put_report(out: &mut String, r: Report, lists: &Lists) -> Result<(), AllocError> {
+    put_batch(out, r.batch)?;
+    out.push_str(" faults ")?;
+    put_faults(
+        out,
+        first(&lists.ids, r.faults),
+        first(&lists.kinds, r.faults),
+    )?;
+    put_due_items(out, lists, r.due)?;
+    put_made(out, r.recipe)
+}
+
+// How many due items a batch filled in; none where it was refused.
+fn due_count(outcome: Result<Report, Refusal>) -> usize {
+    match outcome {
+        Ok(r) => r.due,
+        Err(_) => 0,
+    }
+}
+
+// Says what a batch answers, looks at the places behind those filled, and clears the lists for the next call.
+pub(crate) fn say_batch(
+    out: &mut String,
+    outcome: Result<Report, Refusal>,
+    b: &Agreed,
+    lists: &mut Lists,
+) -> Result<(), AllocError> {
+    match outcome {
+        Ok(r) => put_report(out, r, lists)?,
+        Err(refusal) => write!(out, "refused {refusal}")?,
+    }
+    let n = process_batch::fault_count(&outcome);
+    let k = due_count(outcome);
+    let faults = lists.faults_kept(n, b.faults);
+    let due = lists.due_kept(k, b.due);
+    lists.clear(n, k);
+    end_line(out, faults, due)
+}
+
+// The call of a joining.
+pub(crate) fn join(j: &Join, lists: &mut Lists) -> Result<JoinStarted, Refusal> {
+    DynamicHoneyBadger::new_joining(
+        j.id,
+        j.key,
+        &j.plan,
+        lend(&mut lists.due_kinds, j.places),
+        lend(&mut lists.indices, j.places),
+        lend(&mut lists.eras, j.places),
+    )
+}
+
+// Says what a joining answers, its n due items or the refusal, looks at the places behind those filled, and clears the lists for the next call.
+pub(crate) fn say_join(
+    out: &mut String,
+    n: Result<usize, Refusal>,
+    places: usize,
+    lists: &mut Lists,
+) -> Result<(), AllocError> {
+    match n {
+        Ok(k) => {
+            out.push_str("started")?;
+            put_due_items(out, lists, k)?;
+        }
+        Err(refusal) => write!(out, "refused {refusal}")?,
+    }
+    let filled = n.unwrap_or(0);
+    let due = lists.due_kept(filled, places);
+    lists.clear(0, filled);
+    end_line(out, true, due)
+}

@@ -1,0 +1,171 @@
+// The calls of a log. Each answers one line; a line that is no call changes nothing. The checker writes out a large value's type at each step of a function that makes one, so
+// those that make a replica or a host are short.
+use crate::answers::kind_name;
+use crate::batches::{join, say_batch, say_join};
+use crate::lent::{Lists, lend};
+use crate::parse::{Agreed, Call, Join, New, Order};
+use crate::queries::{ask, schedule, user};
+use crate::text::{Failure, hex_of};
+use batch::Batch;
+use bincode::Refusal;
+use dynamic_honey_badger::DynamicHoneyBadger;
+use fault_log::FaultKind;
+use message::Message;
+use std::alloc::AllocError;
+use votes::SignedVote;
+
+// A replica, and the last report once there is one.
+#[derive(Clone, Copy)]
+pub struct Host {
+    pub replica: DynamicHoneyBadger,
+    pub report: Option<Batch>,
+}
+
+// The bytes of the message that broadcasts an own vote.
+fn say_cast(out: &mut String, vote: SignedVote) -> Result<(), AllocError> {
+    let mut buf = [0u8; 512];
+    let n = message::write_message(&mut buf, 0, Message::of_vote(vote));
+    writeln!(out, "vote {}", hex_of(*out.allocator(), &buf, n)?)
+}
+
+// What an own vote answers.
+fn say_vote(out: &mut String, outcome: Result<Option<SignedVote>, Refusal>) -> Result<(), Failure> {
+    match outcome? {
+        Some(vote) => say_cast(out, vote)?,
+        None => writeln!(out, "nothing")?,
+    }
+    Ok(())
+}
+
+// What a message answers: a fault is its sender's.
+fn say_handled(
+    out: &mut String,
+    sender: u32,
+    outcome: Result<Option<FaultKind>, Refusal>,
+) -> Result<(), Failure> {
+    match outcome? {
+        Some(kind) => writeln!(out, "fault {sender}:{}", kind_name(kind.number()))?,
+        None => writeln!(out, "handled")?,
+    }
+    Ok(())
+}
+
+// The host of a replica that starts, with no report yet.
+fn begin(replica: DynamicHoneyBadger) -> Option<Host> {
+    Some(Host {
+        replica,
+        report: None,
+    })
+}
+
+fn start(host: &mut Option<Host>, n: &New, out: &mut String) -> Result<(), Failure> {
+    let replica = DynamicHoneyBadger::new(n.id, n.key, n.era, &n.map, &n.params)?;
+    *host = begin(replica);
+    writeln!(out, "started")?;
+    Ok(())
+}
+
+fn start_joining(
+    host: &mut Option<Host>,
+    j: &Join,
+    lists: &mut Lists,
+    out: &mut String,
+) -> Result<(), AllocError> {
+    match join(j, lists) {
+        Ok(r) => {
+            *host = begin(r.state);
+            say_join(out, Ok(r.due), j.places, lists)
+        }
+        Err(refusal) => say_join(out, Err(refusal), j.places, lists),
+    }
+}
+
+// The state goes straight into a call and is put back at once: any other order copies it once more.
+impl Host {
+    // A refused batch keeps the last report.
+    fn batch(&mut self, b: &Agreed, lists: &mut Lists, out: &mut String) -> Result<(), Failure> {
+        let r = process_batch::process_batch(
+            self.replica,
+            b.era,
+            b.inner,
+            &b.batch,
+            &b.verdicts,
+            lend(&mut lists.ids, b.faults),
+            lend(&mut lists.kinds, b.faults),
+            lend(&mut lists.due_kinds, b.due),
+            lend(&mut lists.indices, b.due),
+            lend(&mut lists.eras, b.due),
+        );
+        self.replica = r.state;
+        if let Ok(report) = r.outcome {
+            self.report = Some(report.batch);
+        }
+        say_batch(out, r.outcome, b, lists)?;
+        Ok(())
+    }
+
+    fn receive(&mut self, sender: u32, message: &[u8], out: &mut String) -> Result<(), Failure> {
+        let r = self.replica.handle_message(sender, message);
+        self.replica = r.state;
+        say_handled(out, sender, r.outcome)
+    }
+
+    // A due item has no sender whose fault it could be.
+    fn take_back(&mut self, item: &[u8], out: &mut String) -> Result<(), Failure> {
+        let r = due_item::handle_due_item(self.replica, item);
+        self.replica = r.state;
+        say_handled(out, 0, r.outcome)
+    }
+
+    fn vote_for(&mut self, change: &[u8], out: &mut String) -> Result<(), Failure> {
+        let r = self.replica.vote_for(change);
+        self.replica = r.state;
+        say_vote(out, r.outcome)
+    }
+
+    fn vote_to_add(&mut self, id: u32, key: u64, out: &mut String) -> Result<(), Failure> {
+        let r = self.replica.vote_to_add(id, key);
+        self.replica = r.state;
+        say_vote(out, r.outcome)
+    }
+
+    fn vote_to_remove(&mut self, id: u32, out: &mut String) -> Result<(), Failure> {
+        let r = self.replica.vote_to_remove(id);
+        self.replica = r.state;
+        say_vote(out, r.outcome)
+    }
+
+    fn order(&mut self, order: &Order, lists: &mut Lists, out: &mut String) -> Result<(), Failure> {
+        match order {
+            Order::Batch(b) => self.batch(b, lists, out),
+            Order::Message(sender, message) => self.receive(*sender, message, out),
+            Order::Due(item) => self.take_back(item, out),
+            Order::Vote(change) => self.vote_for(change, out),
+            Order::Add(id, key) => self.vote_to_add(*id, *key, out),
+            Order::Remove(id) => self.vote_to_remove(*id, out),
+        }
+    }
+}
+
+// The answer to a call.
+pub(crate) fn answer(
+    call: &Call,
+    host: &mut Option<Host>,
+    lists: &mut Lists,
+    out: &mut String,
+) -> Result<(), Failure> {
+    match call {
+        Call::New(n) => start(host, n, out),
+        Call::Join(j) => Ok(start_joining(host, j, lists, out)?),
+        Call::Schedule(epoch, bytes) => schedule(*epoch, bytes, out),
+        Call::User(id, batch) => user(*id, batch, out),
+        Call::Order(order) => match host {
+            Some(h) => h.order(order, lists, out),
+            None => Err(Failure::NoEngine),
+        },
+        Call::Ask(question) => match host {
+            Some(h) => ask(h, *question, out),
+            None => Err(Failure::NoEngine),
+        },
+    }
+}

@@ -1,9 +1,0 @@
-use Rattle.bincode.specs.Sizes.{base}
-use Prim.Native.Nat.{◌≤◌, ◌-◌}
-use Rattle.simulation.proofs.compare.same_votes.Given as goal
-
-abbrev pub invariant-loop-i : goal.invariant-loop-i
-invariant-loop-i l = (l.i ≤ l.n) × (l.n ≤ base.nodes)
-
-abbrev pub decreases-loop-i : goal.decreases-loop-i
-decreases-loop-i l = l.n - l.i
