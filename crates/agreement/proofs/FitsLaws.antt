@@ -40,24 +40,25 @@ pub joining_fits : (κs : Lfts 4) (a : Dens κs joining.ps) → GoodsP κs joini
     → StartFits (join_start (due_places a.1.1.1.0.now a.1.1.1.1.0.now a.1.1.1.1.1.0.now) a.0 a.1.0 a.1.1.0.now)
 joining_fits κs a g plan = (omega (arith, g.0.1), omega (arith, g.1.0.1), bytes_fit a.1.1.0.now plan)
 
--- a batch: era, inner epoch, batch, verdicts, lent lists of faults and of due items
-pub batch_fits : (κs : Lfts 7) (a : Dens κs processing.ps) → GoodsP κs processing.ps a → Fit (f_int w8) 0 a.1.1.1.0.now → Fit (f_int w8) 0 a.1.1.1.1.0.now
+-- a batch as it was agreed, its era, inner epoch, bytes and verdicts; lent lists of faults and of due items
+pub batch_fits : (κs : Lfts 6) (a : Dens κs processing.ps) → GoodsP κs processing.ps a → Fit (f_int w8) 0 a.1.0.batch.now → Fit (f_int w8) 0 a.1.0.verdicts.now
     → CallFits
     (batch_call
     (lent_call
-    a.1.0
-    a.1.1.0
-    a.1.1.1.0.now
-    a.1.1.1.1.0.now
+    a.1.0.era
+    a.1.0.epoch
+    a.1.0.batch.now
+    a.1.0.verdicts.now
     (record {
-      fault_ids = a.1.1.1.1.1.0.now;
-      fault_kinds = a.1.1.1.1.1.1.0.now;
-      due_kinds = a.1.1.1.1.1.1.1.0.now;
-      due_indices = a.1.1.1.1.1.1.1.1.0.now;
-      due_eras = a.1.1.1.1.1.1.1.1.1.0.now;
+      fault_ids = a.1.1.0.now;
+      fault_kinds = a.1.1.1.0.now;
+      due_kinds = a.1.1.1.1.0.now;
+      due_indices = a.1.1.1.1.1.0.now;
+      due_eras = a.1.1.1.1.1.1.0.now;
     })))
 batch_fits κs a g batch verdicts =
-    (omega (arith, g.1.0.1), omega (arith, g.1.1.0.1), bytes_fit a.1.1.1.0.now batch, bytes_fit a.1.1.1.1.0.now verdicts)
+    let held = g.1.0.1.1 in
+    (omega (arith, held.0.1), omega (arith, held.1.0.1), bytes_fit a.1.0.batch.now batch, bytes_fit a.1.0.verdicts.now verdicts)
 
 -- own votes: a change; an id with its key; an id
 pub vote_fits : (κs : Lfts 1) (a : Dens κs voting.ps) → Fit (f_int w8) 0 a.1.0.now → CallFits (vote_call a.1.0.now)

@@ -17,7 +17,8 @@ use Rattle.votes.specs.Votes.{SignedVoteOf, SignedVoteOk}
 use Rattle.signed_votes.specs.SignedVotes.{voter_of}
 use Rattle.signed_votes.proofs.VotesLaws.{AscendsFrom, within_ascends}
 use Rattle.vote_counter.specs.VoteCounter.{is_key}
-use Rattle.node_change.specs.NodeChange.{id_of, is_not, with_node, without_node}
+use Rattle.pub_key_map.specs.PubKeyMap.{id_of}
+use Rattle.node_change.specs.NodeChange.{is_not, with_node, without_node}
 use Rattle.agreement.specs.Formed.{VotesFormed}
 use Rattle.agreement.proofs.KeptLaws.{all_within}
 use Rattle.lists.proofs.FilterLaws.{filter_length}

@@ -22,7 +22,7 @@ use Rattle.signed_votes.proofs.VotesLaws.{AscendsFrom, insert_ascends}
 use Rattle.board.proofs.HandedLaws.{worked_few}
 use Rattle.key_gen.specs.KeyGen.{ProposalOf, by_proposer}
 use Rattle.key_gen_state.specs.KeyGenState.{KeyGenStateOf}
-use Rattle.node_change.specs.NodeChange.{id_of}
+use Rattle.pub_key_map.specs.PubKeyMap.{id_of}
 use Rattle.dynamic_honey_badger.specs.State.{StateOf, nodes_in}
 use Rattle.agreement.specs.Formed.{MapFormed, VotesFormed, PartFormed, KeyGenFormed, Formed}
 use Rattle.agreement.proofs.KeptLaws.{all_insert}

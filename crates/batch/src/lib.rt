@@ -9,7 +9,7 @@ ghost use Rattle.change.specs.Change.{state_of};
 ghost use Rattle.batch.specs.Batch.{batch_of, changed, plan_left, plan_answered};
 
 use bincode::Refusal;
-use change::{ChangeState, Progress};
+use change::ChangeState;
 use join_plan::JoinPlan;
 use params::Params;
 use pub_key_map::PubKeyMap;
@@ -57,5 +57,5 @@ impl Batch {
 fn is_none(change: ChangeState) -> bool
     ensures { result ≡ not (changed (state_of change)) }
 {
-    matches!(change.progress, Progress::None)
+    matches!(change, ChangeState::None)
 }

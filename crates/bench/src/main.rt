@@ -6,6 +6,7 @@
 use due::DueList;
 use dynamic_honey_badger::DynamicHoneyBadger;
 use fault_log::FaultLog;
+use process_output::Agreed;
 use std::io;
 use std::io::Read;
 
@@ -17,10 +18,7 @@ const VERDICTS: usize = 1024;
 
 // The number at a place of the input; 0 where there is none.
 fn number(s: &[u8], at: usize) -> u64 {
-    match bincode::read_u64(s, at) {
-        Ok((x, _)) => x,
-        Err(_) => 0,
-    }
+    bincode::read_u64(s, at).map_or(0, |(x, _)| x)
 }
 
 // The parts of the input, and the numbers that are no lengths of them.
@@ -33,6 +31,26 @@ pub struct Input<'a> {
     pub batch: &'a [u8],
     pub verdicts: usize,
     pub era: u64,
+}
+
+impl<'a> Input<'a> {
+    // The batch of a turn: the opening batch at the first, with no verdicts.
+    fn agreed(self, turn: u64, zeros: &'a [u8]) -> Agreed<'a> {
+        if turn == 0 {
+            return Agreed {
+                era: 0,
+                epoch: 0,
+                batch: self.opening,
+                verdicts: b"",
+            };
+        }
+        Agreed {
+            era: self.era,
+            epoch: 0,
+            batch: self.batch,
+            verdicts: part(zeros, 0, self.verdicts),
+        }
+    }
 }
 
 // The n bytes from a place on; empty where there are fewer.
@@ -58,34 +76,26 @@ fn input_of(s: &[u8]) -> Input<'_> {
     }
 }
 
-// The opening batch at the first turn, then the batch; whether all were reported. The lists are lent with their lengths in the type, so no turn has to keep track of them.
-fn take_batches(
-    node: DynamicHoneyBadger,
-    input: Input<'_>,
-    ids: &mut [u32; FaultLog::LIMIT],
-    kinds: &mut [u8; FaultLog::LIMIT],
-    due_kinds: &mut [u8; DueList::LIMIT],
-    indices: &mut [u64; DueList::LIMIT],
-    eras: &mut [u64; DueList::LIMIT],
-) -> bool {
+// The opening batch at the first turn, then the batch; whether all were reported. The lists that are lent have their lengths in the type, so no turn has to keep track of them.
+fn take_batches(node: DynamicHoneyBadger, input: Input<'_>) -> bool {
     let zeros = [0u8; VERDICTS];
+    let mut ids = [0u32; FaultLog::LIMIT];
+    let mut kinds = [0u8; FaultLog::LIMIT];
+    let mut due_kinds = [0u8; DueList::LIMIT];
+    let mut indices = [0u64; DueList::LIMIT];
+    let mut eras = [0u64; DueList::LIMIT];
     let mut state = node;
     let mut good = true;
     for i in 0..input.turns {
-        let era = if i == 0 { 0 } else { input.era };
-        let batch = if i == 0 { input.opening } else { input.batch };
-        let n = if i == 0 { 0 } else { input.verdicts };
+        let agreed = input.agreed(i, &zeros);
         let r = process_batch::process_batch(
             state,
-            era,
-            0,
-            batch,
-            part(&zeros, 0, n),
-            ids,
-            kinds,
-            due_kinds,
-            indices,
-            eras,
+            agreed,
+            &mut ids,
+            &mut kinds,
+            &mut due_kinds,
+            &mut indices,
+            &mut eras,
         );
         state = r.state;
         good = good && r.outcome.is_ok();
@@ -96,18 +106,9 @@ fn take_batches(
 // Whether the node starts and every batch is reported.
 fn bench(s: &[u8]) -> bool {
     let input = input_of(s);
-    let Ok(node) = DynamicHoneyBadger::new(1, 1001, 0, input.map, input.params) else {
-        return false;
-    };
-    take_batches(
-        node,
-        input,
-        &mut [0u32; FaultLog::LIMIT],
-        &mut [0u8; FaultLog::LIMIT],
-        &mut [0u8; DueList::LIMIT],
-        &mut [0u64; DueList::LIMIT],
-        &mut [0u64; DueList::LIMIT],
-    )
+    DynamicHoneyBadger::new(1, 1001, 0, input.map, input.params).is_ok_and(|node| take_batches(
+        node, input,
+    ))
 }
 
 fn main(rt: HostRuntime) -> io::Result<()> {

@@ -1,3 +1,5 @@
+pub mod PartLaws
+pub mod ByteLaws
 pub mod NumberLaws
 pub mod ReadLaws
 pub mod AnswerLaws

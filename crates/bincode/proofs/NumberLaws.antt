@@ -1,47 +1,24 @@
 -- Laws of the numbers' bytes, over the width.
 -- Assumes nothing.
-use Prim.Native.Nat.{ℕ, zero, suc, ◌+◌, ◌-◌, ◌*◌, ◌/◌, ◌%◌, ◌^◌, ◌≤◌, ◌<◌}
+use Prim.Native.Nat.{ℕ, zero, suc, ◌+◌, ◌*◌, ◌/◌, ◌%◌, ◌^◌, ◌≤◌, ◌<◌}
 use mathlib.Core.Path.{◌≡◌, refl, sym, ap, subst}
 use mathlib.Core.List.{List, [], ◌∷◌}
 use mathlib.Core.Bool.{Bool, true, false, cond}
 use native.Mathlib.Omega.{arith}
 use native.Mathlib.Nat.{pow-suc, pow-le-pow_right, div-lt_iff_lt-mul}
 use lib.Dec.{lit<, leb}
-use lib.ListN.{length, take, drop, get_or, set, length-take}
-use lib.Seq.{sets, drop-cons, get_or-drop}
+use lib.ListN.{length, take, drop, length-take}
+use lib.Seq.{get_or-drop}
 use borrow.Author.Tests.{le-leb, lt-leb, leb-true}
 use Rattle.bincode.specs.Read.{value, refuse}
 use Rattle.bincode.specs.Numbers.{le, bytes_of, read_num}
 use Rattle.bincode.specs.Stands.{Bytes}
-
--- one byte more, from below
-le_more : (w at : ℕ) (s : List ℕ) → at < length s → le (take (suc w) (drop at s)) ≡ get_or s at 0 + 256 * le (take w (drop (suc at) s))
-unfolding le
-le_more w at s h = rw (drop-cons s at 0)
 
 -- the number that bytes stand for has no more digits than they are
 le_lt : (l : List ℕ) → Bytes l → le l < 256 ^ length l
 unfolding le
 le_lt [] h = lit< tt
 le_lt (b ∷ bs) h = omega (arith, h 0, le_lt bs (λ i. h (suc i)), pow-suc 256 (length bs))
-
--- a turn of the loop that writes
-pub put_step : (l : List ℕ) (at w k v : ℕ) → k < w
-    → sets l (at + k) (bytes_of (w - k) v) ≡ sets (set l (at + k) (v % 256)) (at + (k + 1)) (bytes_of (w - (k + 1)) (v / 256))
-unfolding bytes_of
-put_step l at w k v h =
-    let e : w - k ≡ suc (w - (k + 1)) = omega arith in
-    let f : at + (k + 1) ≡ suc (at + k) = omega arith in
-    rw (e, f)
-
--- a turn of the loop that reads
-pub num_step : (s : List ℕ) (at w k : ℕ) → 0 < k → k ≤ w → at + w ≤ length s
-    → le (take (w - (k - 1)) (drop (at + (k - 1)) s)) ≡ le (take (w - k) (drop (at + k) s)) * 256 + get_or s (at + (k - 1)) 0
-num_step s at w k h h2 h3 =
-    let e : w - (k - 1) ≡ suc (w - k) = omega arith in
-    let f : suc (at + (k - 1)) ≡ at + k = omega arith in
-    let g : at + (k - 1) < length s = omega arith in
-    rw (e, le_more (w - k) (at + (k - 1)) s g, f) (omega arith)
 
 pub bytes_part : (s : List ℕ) (w at : ℕ) → Bytes s → Bytes (take w (drop at s))
 bytes_part s w at h i = go w (drop at s) (λ j. subst (λ (x : ℕ). x < 256) (sym (get_or-drop at s j 0)) (h (at + j))) i

@@ -1,10 +1,11 @@
 -- What the functions' `Result`s say: of a reader as a `Read`, of another call as an `Outcome`, each refusal by 01's number.
-use Rattle.std.specs.Prelude.{ℕ, Ok, Err}
+use Rattle.std.specs.Prelude.{ℕ, List, Ok, Err, cond, length, ltb}
 use Rattle.std.specs.declared.result.Result.{Result}
 use Rattle.bincode.specs.Read.{Read, value, refuse}
 use Rattle.bincode.specs.Outcome.{Outcome, done, refused}
 use Rattle.bincode.specs.Rows.{row_number, row}
 use Rattle.bincode.specs.declared.Refusal.{Refusal}
+use Rattle.bincode.specs.declared.Refusal.TheVariants.{Malformed}
 
 -- a reader's answer, with the value seen through f: the value and the position behind it, or the refusal's number
 module _ {A B : Type 0} (f : A → B) where
@@ -29,3 +30,9 @@ module _ {A B : Type 0} (f : A → B) where
   abbrev pub outcome_as_said : Result A Refusal → Outcome B
   outcome_as_said (Ok a) = done (f a)
   outcome_as_said (Err r) = refused (row_number r)
+
+-- the answer of a reading from the first byte on, where it must take the whole input s: row 2 where something is left over
+module _ {T : Type 0} where
+  abbrev pub all_read : List ℕ → Result (T × ℕ) Refusal → Result (T × ℕ) Refusal
+  all_read s (Ok (x, c)) = cond (ltb c (length s)) (Err Malformed) (Ok (x, c))
+  all_read s (Err r) = Err r

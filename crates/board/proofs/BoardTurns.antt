@@ -5,19 +5,22 @@ use mathlib.Core.Path.{◌≡◌, refl, sym, ap, ◌∙◌}
 use mathlib.Core.List.{List, [], ◌∷◌, ◌++◌, map}
 use mathlib.Core.Bool.{Bool, true, false, cond, not}
 use native.Mathlib.Omega.{arith}
-use lib.Dec.{eqb}
+use lib.Dec.{eqb, ltb}
 use lib.ListN.{length, take, drop, get_or, set, replicate, length-map, get_or-map}
 use lib.Seq.{take_all, get_or-set_same, get_or-set_other}
-use borrow.Author.Tests.{eq-eqb, ne_eqb, eqb-true, eqb-false}
+use borrow.Author.Tests.{eq-eqb, ne_eqb, eqb-true, eqb-false, ltb-false}
 use Rattle.lists.specs.Lists.{Found, map_found, lookup}
-use Rattle.lists.proofs.ListLaws.{false_true, rest_none}
+use Rattle.std.specs.Prelude.{position, Some, None}
+use Rattle.std.specs.List.{position_or_len}
+use Rattle.std.specs.Option.{unwrap_or}
+use Rattle.lists.proofs.ListLaws.{false_true}
 use Rattle.lists.proofs.SortedLaws.{map_lookup}
 use Rattle.change.specs.Change.{ChangeOf, same_change}
 use Rattle.change.proofs.ChangeLaws.{change_true, change_refl}
 use Rattle.votes.specs.declared.SignedVote.{SignedVote}
-use Rattle.votes.specs.Votes.{SignedVoteOf, signed_of, no_signed}
+use Rattle.votes.specs.Votes.{SignedVoteOf, signed_of, no_signed, voter_in as voter_in_vote}
 use Rattle.signed_votes.specs.declared.SignedVotes.{SignedVotes}
-use Rattle.signed_votes.specs.SignedVotes.{held, votes_of, voter_of, voter_in as voter_in_vote}
+use Rattle.signed_votes.specs.SignedVotes.{held, votes_of, voter_of}
 use Rattle.winner.specs.Winner.{support}
 use Rattle.winner.specs.Board.{Cast, Row, choices, least_with, supporters, lowest, first_choices, row_for, is_before, placed, in_order, board}
 use Rattle.winner.proofs.SupportTurns.{count_yes, count_no}
@@ -25,20 +28,17 @@ use Rattle.winner.proofs.LowestTurns.{none_supports, lowest_yes, lowest_no, lowe
 use Rattle.winner.proofs.BoardOrder.{in_order_map}
 use Rattle.board.specs.declared.BoardRow.{BoardRow}
 use Rattle.board.specs.Board.{count_in, voter_in, cast_of, kept_row, worked_out, change_by}
-use Rattle.board.specs.Turns.{rank}
+use Rattle.board.specs.Turns.{rank, choice_at, Begins, had_before, Marked}
 
 -- the change that a look-up among the structs finds
 pub held_change : (t : SignedVotes) (k : ℕ) (x : Found SignedVote) → lookup voter_in_vote (held t) k ≡ x → change_by (lookup voter_of (votes_of t) k) ≡ change_by (map_found signed_of x)
 held_change t k x e = ap change_by (sym (map_lookup signed_of voter_of (held t) k) ∙ ap (map_found signed_of) e)
 
--- the vote at a place begins a row unless an earlier one is for its change; then the row counts all votes for it
-abbrev pub choice_at : List SignedVoteOf → ℕ → ChangeOf
-choice_at vs i = (get_or vs i no_signed).vote.change
-
-abbrev pub Begins : List SignedVoteOf → ℕ → Bool → BoardRow → Type 0
-Begins vs i first row =
-    (first ≡ eqb (support same_change (choice_at vs i) (take i (choices (map cast_of vs)))) 0)
-    × (first ≡ true → row ≡ kept_row (row_for same_change (map cast_of vs) (choice_at vs i)))
+-- the vote at a place of a slice, whatever stands for the default
+pub vote_at : (xs : List SignedVote) (i : ℕ) → i < length (map signed_of xs) → (z : SignedVote) → get_or (map signed_of xs) i no_signed ≡ signed_of (get_or xs i z)
+vote_at [] i l z = absurd (let y : ⊥ = omega arith in y)
+vote_at (x ∷ xs) zero l z = refl
+vote_at (x ∷ xs) (suc i) l z = vote_at xs i (omega arith) z
 
 -- the place of a row among others
 module _ (r : BoardRow) where
@@ -61,20 +61,23 @@ module _ (r : BoardRow) where
       go true h = omega arith
       go false h = omega arith
 
-  -- turns of the search for it
-  module _ (qs : List BoardRow) (i : ℕ) where
-    module _ (q : BoardRow) (h : drop i qs ≡ q ∷ drop (i + 1) qs) where
-      pub rank_more : is_before count_in voter_in r q ≡ false → i + rank r (drop i qs) ≡ (i + 1) + rank r (drop (i + 1) qs)
-      unfolding rank
-      rank_more e = rw (h, e) (omega arith)
+  -- the search for it
+  rank_first : (qs : List BoardRow) → position_or_len (is_before count_in voter_in r) qs ≡ rank r qs
+  unfolding rank
+  rank_first [] = refl
+  rank_first (q ∷ qs) = go (is_before count_in voter_in r q) (rank_first qs)
+    where
+      go : (b : Bool) → position_or_len (is_before count_in voter_in r) qs ≡ rank r qs → cond (not b) (1 + position_or_len (is_before count_in voter_in r) qs) 0 ≡ cond b 0 (suc (rank r qs))
+      go true e = refl
+      go false e = omega (arith, e)
 
-      pub rank_stop : is_before count_in voter_in r q ≡ true → i + rank r (drop i qs) ≡ i
-      unfolding rank
-      rank_stop e = rw (h, e) (omega arith)
-
-    pub rank_end : length qs ≤ i → i + rank r (drop i qs) ≡ i
-    unfolding rank
-    rank_end l = rw (rest_none qs i l) (omega arith)
+  pub rank_found : (qs : List BoardRow) → unwrap_or (position (is_before count_in voter_in r) qs) (length qs) ≡ rank r qs
+  rank_found qs = go (ltb (position_or_len (is_before count_in voter_in r) qs) (length qs)) refl
+    where
+      go : (b : Bool) → ltb (position_or_len (is_before count_in voter_in r) qs) (length qs) ≡ b
+          → unwrap_or (cond b (Some (position_or_len (is_before count_in voter_in r) qs)) None) (length qs) ≡ rank r qs
+      go true e = rank_first qs
+      go false e = let l = ltb-false (position_or_len (is_before count_in voter_in r) qs) (length qs) e in omega (arith, rank_first qs, rank_le qs)
 
 -- the choices of the first of some votes
 choices_take : {A : Type 0} (n : ℕ) (cs : List (Cast A)) → choices (take n cs) ≡ take n (choices cs)
@@ -107,18 +110,14 @@ module _ (vs : List SignedVoteOf) where
     one_no : same_change (choice_at vs j) x ≡ false → support same_change x (take (j + 1) (choices casts)) ≡ support same_change x (take j (choices casts))
     one_no e = count_no same_change (choices casts) x no_signed.vote.change j (omega (arith, choices_many)) (ap (λ (y : ChangeOf). same_change y x) (choice_at_lem j) ∙ e)
 
-  -- whether a vote before place i is for the change of the vote at place k
-  abbrev pub had_before : ℕ → ℕ → Bool
-  had_before i k = not (eqb (support same_change (choice_at vs k) (take i (choices casts))) 0)
-
   module _ (p k : ℕ) (l : p < length vs) where
-    had_yes : same_change (choice_at vs k) (choice_at vs p) ≡ true → had_before (p + 1) k ≡ true
+    had_yes : same_change (choice_at vs k) (choice_at vs p) ≡ true → had_before vs (p + 1) k ≡ true
     had_yes e =
         let same = change_true (choice_at vs k) (choice_at vs p) e in
         let s = one_yes (choice_at vs k) p l (ap (λ (y : ChangeOf). same_change (choice_at vs p) y) same ∙ change_refl (choice_at vs p)) in
         ap not (ne_eqb (support same_change (choice_at vs k) (take (p + 1) (choices casts))) 0 (λ z. omega arith))
 
-    had_no : same_change (choice_at vs k) (choice_at vs p) ≡ false → had_before (p + 1) k ≡ had_before p k
+    had_no : same_change (choice_at vs k) (choice_at vs p) ≡ false → had_before vs (p + 1) k ≡ had_before vs p k
     had_no e = ap (λ (n : ℕ). not (eqb n 0)) (one_no (choice_at vs k) p l (go (same_change (choice_at vs p) (choice_at vs k)) refl))
       where
         go : (b : Bool) → same_change (choice_at vs p) (choice_at vs k) ≡ b → same_change (choice_at vs p) (choice_at vs k) ≡ false
@@ -128,18 +127,14 @@ module _ (vs : List SignedVoteOf) where
         go false q = q
 
     -- a vote whose change was there before adds none
-    pub had_again : had_before p p ≡ true → had_before (p + 1) k ≡ had_before p k
+    pub had_again : had_before vs p p ≡ true → had_before vs (p + 1) k ≡ had_before vs p k
     had_again h = go (same_change (choice_at vs k) (choice_at vs p)) refl
       where
-        go : (b : Bool) → same_change (choice_at vs k) (choice_at vs p) ≡ b → had_before (p + 1) k ≡ had_before p k
+        go : (b : Bool) → same_change (choice_at vs k) (choice_at vs p) ≡ b → had_before vs (p + 1) k ≡ had_before vs p k
         go true e = had_yes e ∙ sym h ∙ ap (λ (y : ChangeOf). not (eqb (support same_change y (take p (choices casts))) 0)) (sym (change_true (choice_at vs k) (choice_at vs p) e))
         go false e = had_no e
 
-  -- the marks before place p: whether an earlier vote is for the change of the vote at a place from p on
-  abbrev pub Marked : ℕ → List Bool → Type 0
-  Marked p seen = (k : ℕ) → p ≤ k → k < length vs → get_or seen k false ≡ had_before p k
-
-  pub marked_start : (n : ℕ) → Marked 0 (replicate n false)
+  pub marked_start : (n : ℕ) → Marked vs 0 (replicate n false)
   unfolding support
   marked_start n k h l = get_d_replicate n k
     where
@@ -148,14 +143,14 @@ module _ (vs : List SignedVoteOf) where
       get_d_replicate (suc m) zero = refl
       get_d_replicate (suc m) (suc i) = get_d_replicate m i
 
-  pub marked_again : (p : ℕ) (seen : List Bool) → p < length vs → get_or seen p false ≡ true → Marked p seen → Marked (p + 1) seen
+  pub marked_again : (p : ℕ) (seen : List Bool) → p < length vs → get_or seen p false ≡ true → Marked vs p seen → Marked vs (p + 1) seen
   marked_again p seen l e m k h g = m k (omega arith) g ∙ sym (had_again p k l (sym (m p (omega arith) l) ∙ e))
 
   -- while the votes behind place p are gone over, up to place j
   abbrev pub Marking : ℕ → ℕ → List Bool → Type 0
-  Marking p j seen = ((k : ℕ) → j ≤ k → k < length vs → get_or seen k false ≡ had_before p k) × ((k : ℕ) → p < k → k < j → get_or seen k false ≡ had_before (p + 1) k)
+  Marking p j seen = ((k : ℕ) → j ≤ k → k < length vs → get_or seen k false ≡ had_before vs p k) × ((k : ℕ) → p < k → k < j → get_or seen k false ≡ had_before vs (p + 1) k)
 
-  pub marking_start : (p : ℕ) (seen : List Bool) → Marked p seen → Marking p (p + 1) seen
+  pub marking_start : (p : ℕ) (seen : List Bool) → Marked vs p seen → Marking p (p + 1) seen
   marking_start p seen m = (λ k h l. m k (omega arith) l, λ k h l. absurd (omega arith))
 
   module _ (p j : ℕ) (seen : List Bool) (l : p < length vs) (g : j < length vs) (m : Marking p j seen) where
@@ -165,26 +160,26 @@ module _ (vs : List SignedVoteOf) where
       λ k h q. go k h q (eqb k j) refl,
     )
       where
-        go : (k : ℕ) → p < k → k < j + 1 → (b : Bool) → eqb k j ≡ b → get_or (set seen j true) k false ≡ had_before (p + 1) k
+        go : (k : ℕ) → p < k → k < j + 1 → (b : Bool) → eqb k j ≡ b → get_or (set seen j true) k false ≡ had_before vs (p + 1) k
         go k h q true w =
             let s = eqb-true k j w in
-            ap (λ (i : ℕ). get_or (set seen j true) i false) s ∙ get_or-set_same seen j true false f ∙ sym (had_yes p j l e) ∙ ap (had_before (p + 1)) (sym s)
+            ap (λ (i : ℕ). get_or (set seen j true) i false) s ∙ get_or-set_same seen j true false f ∙ sym (had_yes p j l e) ∙ ap (had_before vs (p + 1)) (sym s)
         go k h q false w = let n = eqb-false k j w in get_or-set_other seen j k true false (λ v. n v) ∙ m.1 k h (omega arith)
 
     pub marking_no : same_change (choice_at vs j) (choice_at vs p) ≡ false → Marking p (j + 1) seen
     marking_no e = (λ k h q. m.0 k (omega arith) q, λ k h q. go k h q (eqb k j) refl)
       where
-        go : (k : ℕ) → p < k → k < j + 1 → (b : Bool) → eqb k j ≡ b → get_or seen k false ≡ had_before (p + 1) k
+        go : (k : ℕ) → p < k → k < j + 1 → (b : Bool) → eqb k j ≡ b → get_or seen k false ≡ had_before vs (p + 1) k
         go k h q true w =
             let s = eqb-true k j w in
-            ap (λ (i : ℕ). get_or seen i false) s ∙ m.0 j (omega arith) g ∙ sym (had_no p j l e) ∙ ap (had_before (p + 1)) (sym s)
+            ap (λ (i : ℕ). get_or seen i false) s ∙ m.0 j (omega arith) g ∙ sym (had_no p j l e) ∙ ap (had_before vs (p + 1)) (sym s)
         go k h q false w = let n = eqb-false k j w in m.1 k h (omega arith)
 
-  pub marking_end : (p j : ℕ) (seen : List Bool) → length vs ≤ j → Marking p j seen → Marked (p + 1) seen
+  pub marking_end : (p j : ℕ) (seen : List Bool) → length vs ≤ j → Marking p j seen → Marked vs (p + 1) seen
   marking_end p j seen h m k q g = m.1 k (omega arith) (omega arith)
 
   -- the vote at place p: an earlier one is for its change, or none is
-  module _ (p : ℕ) (seen : List Bool) (l : p < length vs) (m : Marked p seen) where
+  module _ (p : ℕ) (seen : List Bool) (l : p < length vs) (m : Marked vs p seen) where
     pub begun_before : get_or seen p false ≡ true → (row : BoardRow) → Begins vs p false row
     begun_before e row =
         (sym (not_out (eqb (support same_change (choice_at vs p) (take p (choices casts))) 0) (sym (m p (omega arith) l) ∙ e)), λ q. absurd (false_true q))

@@ -1,5 +1,6 @@
 -- 02, CR 3: the board as a node keeps it: the lowest voter and the count of each row, in order. The change of a row is the one that its voter's vote is for.
-use Rattle.std.specs.Prelude.{ℕ, List, [], map, take, replicate}
+use Rattle.std.specs.Prelude.{ℕ, List, [], map, replicate}
+use Rattle.array_list.specs.ArrayList.{items_in}
 use Rattle.lists.specs.Lists.{Found, found, nothing, map_found, at_place, lookup}
 use Rattle.bincode.specs.Sizes.{base}
 use Rattle.change.specs.Change.{ChangeOf, node_change, change_of, same_change}
@@ -12,7 +13,7 @@ use Rattle.board.specs.declared.Standing.{Standing}
 
 -- the rows that count: those below the count, as far as the array reaches
 abbrev pub rows_of : Board → List BoardRow
-rows_of b = take b.count b.rows
+rows_of b = items_in b.rows
 
 -- keys of a row
 abbrev pub count_in : BoardRow → ℕ
@@ -26,7 +27,7 @@ abbrev pub no_row : BoardRow
 no_row = record { voter = 0; count = 0 }
 
 abbrev pub no_board : Board
-no_board = record { count = 0; rows = replicate base.nodes no_row }
+no_board = record { rows = record { count = 0; items = replicate base.nodes no_row } }
 
 -- a vote is its voter's choice
 abbrev pub cast_of : SignedVoteOf → Cast ChangeOf

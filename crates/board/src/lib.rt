@@ -1,18 +1,21 @@
 // 02, CR 3: the board of changes with their voters' counts, largest count first, equal counts by lowest voter. The Rust has none.
 #![tactic(auto)]
 
-ghost use Rattle.std.specs.Prelude.{◌≡◌, ◌≤◌, ◌<◌, length};
+ghost use Rattle.std.specs.Prelude.{◌≡◌, ◌≤◌, ◌<◌, length, map};
 ghost use Rattle.lists.specs.Lists.{lookup, option_as_found};
 ghost use Rattle.bincode.specs.Sizes.{base};
 ghost use Rattle.change.specs.Change.{change_of};
+ghost use Rattle.votes.specs.Votes.{signed_of};
 ghost use Rattle.signed_votes.specs.SignedVotes.{votes_of, voter_of};
 ghost use Rattle.winner.specs.Board.{is_before, placed};
 ghost use Rattle.board.specs.Board.{rows_of, count_in, voter_in, no_board, worked_out, change_by, standing_at, said_standing};
-ghost use Rattle.board.specs.Turns.{rank};
+ghost use Rattle.board.specs.Turns.{rank, Begun};
 
-use change::{Change, ChangeKind};
+use array_list::ArrayList;
+use change::Change;
 use pub_key_map::PubKeyMap;
 use signed_votes::SignedVotes;
+use votes::SignedVote;
 
 // A row: how many voters are for a change, and the lowest of them; the change is looked up among the votes.
 #[derive(Clone, Copy)]
@@ -21,11 +24,10 @@ pub struct BoardRow {
     pub count: usize,
 }
 
-// Places from `count` on do not count.
+// Largest count first, equal counts by lowest voter.
 #[derive(Clone, Copy)]
 pub struct Board {
-    pub count: usize,
-    pub rows: [BoardRow; Board::LIMIT],
+    pub rows: ArrayList<BoardRow, { Board::LIMIT }>,
 }
 
 // A row as it is handed out: a change, and how many voters are for it.
@@ -46,15 +48,30 @@ fn is_before(r: BoardRow, q: BoardRow) -> bool
 fn change_of(votes: SignedVotes, voter: u32) -> Change
     ensures { change_of result ≡ change_by (lookup voter_of (votes_of votes) voter) }
 {
-    for x in &votes.votes[..votes.len()] {
-        if x.voter == voter {
-            return x.vote.change;
+    match votes.votes.get(voter) {
+        Some(x) => x.vote.change,
+        None => Change::NodeChange(PubKeyMap::empty()),
+    }
+}
+
+// The row of the change that the vote at a place is for, where no earlier one is: the votes behind it that are for it are counted and marked.
+fn row_of(votes: &[SignedVote], place: usize, seen: &mut [bool; Board::LIMIT]) -> BoardRow
+    requires { (place < length votes.now) × (length votes.now ≤ base.nodes) }
+    ensures { Begun (map signed_of votes.now) place seen.old result seen.new }
+{
+    let first = votes[place];
+    let change = first.vote.change;
+    let mut voter = first.voter;
+    let mut count: usize = 1;
+    for j in place + 1..votes.len() {
+        let x = votes[j];
+        if x.is_for(change) {
+            seen[j] = true;
+            count += 1;
+            voter = voter.min(x.voter);
         }
     }
-    Change {
-        kind: ChangeKind::NodeChange,
-        map: PubKeyMap::empty(),
-    }
+    BoardRow { voter, count }
 }
 
 impl Board {
@@ -64,8 +81,7 @@ impl Board {
         ensures { result ≡ no_board }
     {
         Board {
-            count: 0,
-            rows: [BoardRow { voter: 0, count: 0 }; Board::LIMIT],
+            rows: ArrayList::empty(BoardRow { voter: 0, count: 0 }),
         }
     }
 
@@ -73,20 +89,16 @@ impl Board {
     pub fn len(self) -> usize
         ensures { (result ≡ length (rows_of self)) × (result ≤ base.nodes) }
     {
-        self.count.min(Board::LIMIT)
+        self.rows.len()
     }
 
     // How many rows stand before the first that a row stands before.
     fn place_of(self, row: BoardRow) -> usize
         ensures { (result ≡ rank row (rows_of self)) × (result ≤ length (rows_of self)) }
     {
-        let n = self.len();
-        for i in 0..n {
-            if is_before(row, self.rows[i]) {
-                return i;
-            }
-        }
-        n
+        let rows = self.rows.as_slice();
+        let place = rows.iter().position(|q| is_before(row, *q));
+        place.unwrap_or(rows.len())
     }
 
     // A row put before the first that it stands before; those from there on move up.
@@ -94,42 +106,21 @@ impl Board {
         requires { length (rows_of self) < base.nodes }
         ensures { rows_of result ≡ placed count_in voter_in row (rows_of self) }
     {
-        let n = self.len();
         let at = self.place_of(row);
-        for j in (at..n).rev() {
-            let q = self.rows[j];
-            self.rows[j + 1] = q;
-        }
-        self.rows[at] = row;
-        self.count = n + 1;
+        self.rows.insert_at(at, row);
         self
     }
 
-    // The board of all votes, worked out anew. A vote whose change no earlier one is for begins a row; those behind it that are for it are counted and marked.
+    // The board of all votes, worked out anew: a vote whose change no earlier one is for begins a row.
     pub fn of(votes: SignedVotes) -> Self
         ensures { rows_of result ≡ worked_out (votes_of votes) }
     {
-        let n = votes.len();
+        let votes = votes.votes.as_slice();
         let mut board = Board::empty();
         let mut seen = [false; Board::LIMIT];
-        for i in 0..n {
+        for i in 0..votes.len() {
             if !seen[i] {
-                let x = votes.votes[i];
-                let vote = x.vote;
-                let change = vote.change;
-                let mut low = x.voter;
-                let mut count: usize = 1;
-                for j in i + 1..n {
-                    let y = votes.votes[j];
-                    if y.is_for(change) {
-                        seen[j] = true;
-                        count += 1;
-                        if y.voter < low {
-                            low = y.voter;
-                        }
-                    }
-                }
-                board = board.put(BoardRow { voter: low, count });
+                board = board.put(row_of(votes, i, &mut seen));
             }
         }
         board
@@ -139,10 +130,7 @@ impl Board {
     pub fn standing(self, votes: SignedVotes, place: usize) -> Option<Standing>
         ensures { option_as_found said_standing result ≡ standing_at place (rows_of self) (votes_of votes) }
     {
-        if self.len() <= place {
-            return None;
-        }
-        let row = self.rows[place];
+        let row = self.rows.at(place)?;
         Some(Standing {
             change: change_of(votes, row.voter),
             count: row.count,

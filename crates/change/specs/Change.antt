@@ -5,16 +5,13 @@ use Rattle.bincode.specs.Numbers.{Edition}
 use Rattle.bincode.specs.Sizes.{Sizes}
 use Rattle.bincode.specs.Stands.{concat}
 use Rattle.pub_key_map.specs.declared.Node.{Node}
-use Rattle.pub_key_map.specs.declared.PubKeyMap.{PubKeyMap}
 use Rattle.pub_key_map.specs.PubKeyMap.{nodes_of, map_held, same_nodes, read_map, map_bytes, MapOk}
 use Rattle.honey_badger.specs.declared.EncryptionSchedule.{EncryptionSchedule}
 use Rattle.honey_badger.specs.EncryptionSchedule.{same_schedule, read_schedule, schedule_bytes, ScheduleOk}
-use Rattle.change.specs.declared.ChangeKind.{ChangeKind}
-use Rattle.change.specs.declared.ChangeKind.TheVariants.{NodeChange, EncryptionSchedule as ScheduleChange}
 use Rattle.change.specs.declared.Change.{Change}
-use Rattle.change.specs.declared.Progress.{Progress}
-use Rattle.change.specs.declared.Progress.TheVariants.{None, InProgress, Complete}
+use Rattle.change.specs.declared.Change.TheVariants.{NodeChange, EncryptionSchedule as ScheduleChange}
 use Rattle.change.specs.declared.ChangeState.{ChangeState}
+use Rattle.change.specs.declared.ChangeState.TheVariants.{None, InProgress, Complete}
 
 -- a change is another map of nodes, or a schedule
 pub data ChangeOf : Type 0 where
@@ -26,31 +23,25 @@ pub data ChangeStateOf : Type 0 where
   in_progress : ChangeOf → ChangeStateOf
   complete : ChangeOf → ChangeStateOf
 
--- what any value of the struct stands for: beside a schedule the map does not count
-abbrev pub change_of_kind : ChangeKind → PubKeyMap → ChangeOf
-change_of_kind NodeChange m = node_change (nodes_of m)
-change_of_kind (ScheduleChange x) m = encryption_schedule x
-
+-- what any value of the enum stands for
 abbrev pub change_of : Change → ChangeOf
-change_of c = change_of_kind c.kind c.map
-
-abbrev pub state_of_progress : Progress → Change → ChangeStateOf
-state_of_progress None c = none
-state_of_progress InProgress c = in_progress (change_of c)
-state_of_progress Complete c = complete (change_of c)
+change_of (NodeChange m) = node_change (nodes_of m)
+change_of (ScheduleChange x) = encryption_schedule x
 
 abbrev pub state_of : ChangeState → ChangeStateOf
-state_of s = state_of_progress s.progress s.change
+state_of None = none
+state_of (InProgress c) = in_progress (change_of c)
+state_of (Complete c) = complete (change_of c)
 
--- the struct that holds a change: the array beside a case that has none is the empty one
+-- the value that holds a change
 abbrev pub change_held : ChangeOf → Change
-change_held (node_change ns) = record { kind = NodeChange; map = map_held ns }
-change_held (encryption_schedule x) = record { kind = ScheduleChange x; map = map_held [] }
+change_held (node_change ns) = NodeChange (map_held ns)
+change_held (encryption_schedule x) = ScheduleChange x
 
 abbrev pub state_held : ChangeStateOf → ChangeState
-state_held none = record { progress = None; change = change_held (node_change []) }
-state_held (in_progress c) = record { progress = InProgress; change = change_held c }
-state_held (complete c) = record { progress = Complete; change = change_held c }
+state_held none = None
+state_held (in_progress c) = InProgress (change_held c)
+state_held (complete c) = Complete (change_held c)
 
 -- equality: the same case with an equal map or schedule
 unfoldable pub same_change : ChangeOf → ChangeOf → Bool

@@ -12,97 +12,64 @@ ghost use Rattle.pub_key_map.specs.PubKeyMap.{nodes_of};
 ghost use Rattle.change.specs.Change.{node_change, encryption_schedule, none, in_progress, complete, change_of, change_held, state_of};
 ghost use Rattle.change.specs.Change.{state_held, same_change, read_change, change_bytes, read_state, state_bytes};
 
-use bincode::Refusal;
+use bincode::{Encoded, Refusal};
 use honey_badger::EncryptionSchedule;
 use pub_key_map::PubKeyMap;
 
-#[derive(Clone, Copy)]
-pub enum ChangeKind {
-    NodeChange,
+// Another map of nodes, or another schedule.
+#[derive(Clone, Copy, PartialEq)]
+pub enum Change {
+    NodeChange(PubKeyMap),
     EncryptionSchedule(EncryptionSchedule),
-}
-
-// The map of a node change stands beside the kind; beside a schedule it is empty.
-#[derive(Clone, Copy)]
-pub struct Change {
-    pub kind: ChangeKind,
-    pub map: PubKeyMap,
 }
 
 impl Change {
     pub fn node_change(map: PubKeyMap) -> Self
         ensures { change_of result ≡ node_change (nodes_of map) }
     {
-        Change {
-            kind: ChangeKind::NodeChange,
-            map,
-        }
+        Change::NodeChange(map)
     }
 
     pub fn schedule(x: EncryptionSchedule) -> Self
         ensures { result ≡ change_held (encryption_schedule x) }
     {
-        Change {
-            kind: ChangeKind::EncryptionSchedule(x),
-            map: PubKeyMap::empty(),
-        }
+        Change::EncryptionSchedule(x)
     }
 
-    // What stands beside a schedule is not compared.
+    // Whether two changes are of one kind, with an equal map or schedule.
+    #[tactic(auto, using(crate::proofs::ChangeLaws::change_eq))]
     pub fn same(self, other: Change) -> bool
         ensures { result ≡ same_change (change_of self) (change_of other) }
     {
-        match (self.kind, other.kind) {
-            (ChangeKind::NodeChange, ChangeKind::NodeChange) => self.map.same(other.map),
-            (ChangeKind::EncryptionSchedule(x), ChangeKind::EncryptionSchedule(y)) => x == y,
-            _ => false,
-        }
+        self == other
     }
 }
 
+// No change, or how far it has come.
 #[derive(Clone, Copy)]
-pub enum Progress {
+pub enum ChangeState {
     None,
-    InProgress,
-    Complete,
-}
-
-// The change stands beside the progress; beside `None` it is the empty node change.
-#[derive(Clone, Copy)]
-pub struct ChangeState {
-    pub progress: Progress,
-    pub change: Change,
+    InProgress(Change),
+    Complete(Change),
 }
 
 impl ChangeState {
     pub fn none() -> Self
         ensures { result ≡ state_held none }
     {
-        ChangeState {
-            progress: Progress::None,
-            change: Change {
-                kind: ChangeKind::NodeChange,
-                map: PubKeyMap::empty(),
-            },
-        }
+        ChangeState::None
     }
 
     pub fn in_progress(change: Change) -> Self
         ensures { state_of result ≡ in_progress (change_of change) }
     {
-        ChangeState {
-            progress: Progress::InProgress,
-            change,
-        }
+        ChangeState::InProgress(change)
     }
 
     pub fn complete(change: Change) -> Self
         ensures { state_of result ≡ complete (change_of change) }
     {
-        ChangeState {
-            progress: Progress::Complete,
-            change,
-        }
+        ChangeState::Complete(change)
     }
 }
 
@@ -112,19 +79,17 @@ pub fn read_change(s: &[u8], at: usize) -> Result<(Change, usize), Refusal>
     let Ok((tag, c)) = bincode::read_u32(s, at) else {
         return Err(Refusal::Malformed);
     };
-    if tag == 0 {
-        let (map, d) = pub_key_map::read_map(s, c)?;
-        let change = Change {
-            kind: ChangeKind::NodeChange,
-            map,
-        };
-        return Ok((change, d));
+    match tag {
+        0 => {
+            let (map, d) = pub_key_map::read_map(s, c)?;
+            Ok((Change::NodeChange(map), d))
+        }
+        1 => {
+            let (x, d) = honey_badger::read_schedule(s, c)?;
+            Ok((Change::EncryptionSchedule(x), d))
+        }
+        _ => Err(Refusal::Malformed),
     }
-    if tag == 1 {
-        let (x, d) = honey_badger::read_schedule(s, c)?;
-        return Ok((Change::schedule(x), d));
-    }
-    Err(Refusal::Malformed)
 }
 
 // A change that is passed over: nothing of it is kept.
@@ -134,25 +99,22 @@ pub fn check_change(s: &[u8], at: usize) -> Result<usize, Refusal>
     let Ok((tag, c)) = bincode::read_u32(s, at) else {
         return Err(Refusal::Malformed);
     };
-    if tag == 0 {
-        return pub_key_map::check_map(s, c);
+    match tag {
+        0 => pub_key_map::check_map(s, c),
+        1 => {
+            let (_, d) = honey_badger::read_schedule(s, c)?;
+            Ok(d)
+        }
+        _ => Err(Refusal::Malformed),
     }
-    if tag == 1 {
-        let (_, d) = honey_badger::read_schedule(s, c)?;
-        return Ok(d);
-    }
-    Err(Refusal::Malformed)
 }
 
 // A change that is a whole input: nothing may be left over.
+#[tactic(auto, using(bincode::proofs::AnswerLaws::all_read_whole))]
 pub fn read_whole_change(s: &[u8]) -> Result<(Change, usize), Refusal>
     ensures { result ≡ answer change_held (whole (read_change fixed base s.now) s.now) }
 {
-    let (change, c) = read_change(s, 0)?;
-    if c < s.len() {
-        return Err(Refusal::Malformed);
-    }
-    Ok((change, c))
+    bincode::all_read(s, read_change(s, 0))
 }
 
 pub fn read_state(s: &[u8], at: usize) -> Result<(ChangeState, usize), Refusal>
@@ -161,28 +123,27 @@ pub fn read_state(s: &[u8], at: usize) -> Result<(ChangeState, usize), Refusal>
     let Ok((tag, c)) = bincode::read_u32(s, at) else {
         return Err(Refusal::Malformed);
     };
-    if tag == 0 {
-        return Ok((ChangeState::none(), c));
+    match tag {
+        0 => Ok((ChangeState::None, c)),
+        1 => {
+            let (change, d) = read_change(s, c)?;
+            Ok((ChangeState::InProgress(change), d))
+        }
+        2 => {
+            let (change, d) = read_change(s, c)?;
+            Ok((ChangeState::Complete(change), d))
+        }
+        _ => Err(Refusal::Malformed),
     }
-    if 2 < tag {
-        return Err(Refusal::Malformed);
-    }
-    let (change, d) = read_change(s, c)?;
-    let progress = if tag == 1 {
-        Progress::InProgress
-    } else {
-        Progress::Complete
-    };
-    Ok((ChangeState { progress, change }, d))
 }
 
 // How many bytes a change takes.
 pub fn change_size(c: Change) -> usize
     ensures { (result ≡ length (change_bytes fixed (change_of c))) × (result ≤ 12 + 12 * base.nodes) }
 {
-    match c.kind {
-        ChangeKind::NodeChange => 4 + pub_key_map::map_size(c.map),
-        ChangeKind::EncryptionSchedule(x) => 4 + honey_badger::schedule_size(x),
+    match c {
+        Change::NodeChange(map) => 4 + pub_key_map::map_size(map),
+        Change::EncryptionSchedule(x) => 4 + honey_badger::schedule_size(x),
     }
 }
 
@@ -190,32 +151,21 @@ pub fn change_size(c: Change) -> usize
 pub fn write_change(buf: &mut [u8], at: usize, c: Change) -> usize
     ensures { (buf.new ≡ written buf.old at (change_bytes fixed (change_of c))) × (result ≡ written_to buf.old at (change_bytes fixed (change_of c))) }
 {
-    match c.kind {
-        ChangeKind::NodeChange => write_node_change(buf, at, c.map),
-        ChangeKind::EncryptionSchedule(x) => write_schedule_change(buf, at, x),
+    match c {
+        Change::NodeChange(map) => bincode::write_both(buf, at, 0u32, map),
+        Change::EncryptionSchedule(x) => bincode::write_both(buf, at, 1u32, x),
     }
 }
 
-fn write_node_change(buf: &mut [u8], at: usize, map: PubKeyMap) -> usize
-    ensures { (buf.new ≡ written buf.old at (change_bytes fixed (node_change (nodes_of map))))
-        × (result ≡ written_to buf.old at (change_bytes fixed (node_change (nodes_of map)))) }
-{
-    if bincode::room(buf.len(), at, 4 + pub_key_map::map_size(map)) {
-        let c = bincode::write_u32(buf, at, 0);
-        pub_key_map::write_map(buf, c, map)
-    } else {
-        at
-    }
-}
+impl Encoded for Change {
+    ghost bytes = { λ c. change_bytes fixed (change_of c) };
 
-fn write_schedule_change(buf: &mut [u8], at: usize, x: EncryptionSchedule) -> usize
-    ensures { (buf.new ≡ written buf.old at (change_bytes fixed (encryption_schedule x))) × (result ≡ written_to buf.old at (change_bytes fixed (encryption_schedule x))) }
-{
-    if bincode::room(buf.len(), at, 4 + honey_badger::schedule_size(x)) {
-        let c = bincode::write_u32(buf, at, 1);
-        honey_badger::write_schedule(buf, c, x)
-    } else {
-        at
+    fn size(&self) -> usize {
+        change_size(*self)
+    }
+
+    fn write(&self, buf: &mut [u8], at: usize) -> usize {
+        write_change(buf, at, *self)
     }
 }
 
@@ -223,22 +173,9 @@ fn write_schedule_change(buf: &mut [u8], at: usize, x: EncryptionSchedule) -> us
 pub fn state_size(x: ChangeState) -> usize
     ensures { (result ≡ length (state_bytes fixed (state_of x))) × (result ≤ 16 + 12 * base.nodes) }
 {
-    match x.progress {
-        Progress::None => 4,
-        Progress::InProgress | Progress::Complete => 4 + change_size(x.change),
-    }
-}
-
-// A tag with a change behind it.
-fn write_tagged(buf: &mut [u8], at: usize, tag: u32, change: Change) -> usize
-    ensures { (buf.new ≡ written buf.old at (concat (bytes_of 4 tag ∷ change_bytes fixed (change_of change) ∷ [])))
-        × (result ≡ written_to buf.old at (concat (bytes_of 4 tag ∷ change_bytes fixed (change_of change) ∷ []))) }
-{
-    if bincode::room(buf.len(), at, 4 + change_size(change)) {
-        let c = bincode::write_u32(buf, at, tag);
-        write_change(buf, c, change)
-    } else {
-        at
+    match x {
+        ChangeState::None => 4,
+        ChangeState::InProgress(change) | ChangeState::Complete(change) => 4 + change_size(change),
     }
 }
 
@@ -246,9 +183,9 @@ fn write_tagged(buf: &mut [u8], at: usize, tag: u32, change: Change) -> usize
 pub fn write_state(buf: &mut [u8], at: usize, x: ChangeState) -> usize
     ensures { (buf.new ≡ written buf.old at (state_bytes fixed (state_of x))) × (result ≡ written_to buf.old at (state_bytes fixed (state_of x))) }
 {
-    match x.progress {
-        Progress::None => bincode::write_u32(buf, at, 0),
-        Progress::InProgress => write_tagged(buf, at, 1, x.change),
-        Progress::Complete => write_tagged(buf, at, 2, x.change),
+    match x {
+        ChangeState::None => bincode::write_u32(buf, at, 0),
+        ChangeState::InProgress(change) => bincode::write_both(buf, at, 1u32, change),
+        ChangeState::Complete(change) => bincode::write_both(buf, at, 2u32, change),
     }
 }

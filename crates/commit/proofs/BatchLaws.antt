@@ -1,14 +1,16 @@
 -- One contribution after the other: what is held of the work carries over its votes, then its key messages.
 -- Assumes nothing.
-use Prim.Native.Nat.{ℕ, zero, suc, ◌+◌, ◌≤◌, ◌<◌}
+use Prim.Native.Nat.{ℕ, ◌+◌, ◌≤◌, ◌<◌}
 use mathlib.Core.Path.{◌≡◌, refl, sym, ap, ◌∙◌, subst}
-use mathlib.Core.List.{List, [], map}
+use mathlib.Core.List.{List, ◌∷◌, map}
 use native.Mathlib.Omega.{arith}
+use native.Mathlib.Numerals.{add-one}
 use lib.Dec.{lit<}
+use lib.Seq.{drop-cons}
 use lib.ListN.{length, drop, get_or}
+use Rattle.std.specs.declared.option.Option.{Option}
 use Rattle.lists.specs.Lists.{Found}
-use Rattle.bincode.specs.Read.{Read, value}
-use Rattle.bincode.specs.Items.{items, foldl, many}
+use Rattle.bincode.specs.Items.{foldl}
 use Rattle.bincode.specs.Sizes.{base}
 use Rattle.bincode.specs.Stands.{Bytes}
 use Rattle.filled.specs.Filled.{filled}
@@ -16,8 +18,7 @@ use Rattle.filled.specs.Numbers.{due_index}
 use Rattle.filled.proofs.FillLaws.{filled_none}
 use Rattle.pub_key_map.specs.declared.Node.{Node}
 use Rattle.due.specs.declared.DueItem.{DueItem}
-use Rattle.votes.specs.Votes.{SignedVoteOf, read_signed_vote}
-use Rattle.key_gen_message.specs.KeyGenMessage.{read_signed_key_gen_msg}
+use Rattle.votes.specs.Votes.{SignedVoteOf}
 use Rattle.key_gen_state.specs.declared.KeyGenState.{KeyGenState}
 use Rattle.key_gen_state.specs.KeyGenState.{KeyGenStateOf}
 use Rattle.key_gen_state.specs.KeyGenState as running
@@ -25,7 +26,7 @@ use Rattle.internal_contrib.specs.declared.Contrib.{Contrib}
 use Rattle.internal_contrib.specs.declared.BatchIndex.{BatchIndex}
 use Rattle.internal_contrib.specs.InternalContrib.{ContribOf}
 use Rattle.internal_contrib.specs.Index.{no_contrib, contribs_in, Kept, EachKept}
-use Rattle.internal_contrib.proofs.KeptLaws.{kept_next, kept_length}
+use Rattle.internal_contrib.proofs.KeptLaws.{kept_more, kept_length}
 use Rattle.internal_contrib.proofs.PartLaws.{messages_again, votes_again, messages_within, votes_within}
 use Rattle.dynamic_honey_badger.specs.State.{StateOf, era_of, nodes_in}
 use Rattle.steps.specs.Steps.{WorkOf, begun, committed_vote, committed_message, committed_contrib, committed}
@@ -57,43 +58,12 @@ messages_on proposer era ns g verdicts n indices₀ indices w vs s start t v h =
       all_acks = subst (λ (ds : List DueItem). ds ≡ map (ack_item era) (map due_index ds)) (sym k.by_due) h.all_acks;
     }
 
--- where no items are counted none is read
-none_read : {A : Type 0} (rd : ℕ → Read A) (n at : ℕ) → n ≤ 0 → (xs : List A) (c : ℕ) → many rd n at ≡ value xs c → xs ≡ []
-unfolding items
-none_read rd zero at h xs c e = cc
-none_read rd (suc n) at h xs c e = absurd (let y : ⊥ = omega arith in y)
-
 -- the votes of an entry were committed from one moment to another, where they stand within the bytes; its messages alike
 abbrev pub VotesTurn : List ℕ → ℕ → List Node → Contrib → voting.Point → voting.Point → Type 0
-VotesTurn s era ns k p q =
-    (q.faults ≤ base.faults) × (length q.ids ≡ length p.ids) × (length q.kinds ≡ length p.kinds)
-    × (k.votes ≤ length s → voting.VotesCommitted era ns s k.vote_count (k.votes + 8) k.id p q)
+VotesTurn s era ns k p q = k.votes ≤ length s → voting.VotesCommitted era ns s k.vote_count (k.votes + 8) k.id p q
 
 abbrev pub MessagesTurn : List ℕ → ℕ → List Node → List ℕ → Contrib → handling.Point → handling.Point → Type 0
-MessagesTurn s era ns verdicts k p q =
-    (q.faults ≤ base.faults) × (q.due ≤ base.due) × (length q.ids ≡ length p.ids) × (length q.kinds ≡ length p.kinds) × (length q.indices ≡ length p.indices)
-    × (k.messages ≤ length s → handling.MessagesCommitted era ns verdicts s k.message_count (k.messages + 8) k.id p q)
-
--- items are committed where they stand; where there are none nothing changes
-module _ (s : List ℕ) (era : ℕ) (ns : List Node) (k : Contrib) where
-  pub votes_turned : (p q : voting.Point) (at : ℕ) → (k.votes ≤ length s → at ≡ k.votes + 8) → q.faults ≤ base.faults
-      → length q.ids ≡ length p.ids → length q.kinds ≡ length p.kinds
-      → voting.VotesCommitted era ns s k.vote_count at k.id p q → VotesTurn s era ns k p q
-  votes_turned p q at e f i n v = (f, i, n, λ l. subst (λ (place : ℕ). voting.VotesCommitted era ns s k.vote_count place k.id p q) (e l) v)
-
-  pub messages_turned : (verdicts : List ℕ) (p q : handling.Point) (at : ℕ) → (k.messages ≤ length s → at ≡ k.messages + 8) → q.faults ≤ base.faults → q.due ≤ base.due
-      → length q.ids ≡ length p.ids → length q.kinds ≡ length p.kinds → length q.indices ≡ length p.indices
-      → handling.MessagesCommitted era ns verdicts s k.message_count at k.id p q → MessagesTurn s era ns verdicts k p q
-  messages_turned verdicts p q at e f d i n x m =
-      (f, d, i, n, x, λ l. subst (λ (place : ℕ). handling.MessagesCommitted era ns verdicts s k.message_count place k.id p q) (e l) m)
-
-  pub votes_skipped : (p : voting.Point) → k.vote_count ≤ 0 → p.faults ≤ base.faults → VotesTurn s era ns k p p
-  votes_skipped p h f =
-      (f, refl, refl, λ l vs c e w start ids₀ kinds₀ held. rw (none_read (read_signed_vote base s) k.vote_count (k.votes + 8) h vs c e) held)
-
-  pub messages_skipped : (verdicts : List ℕ) (p : handling.Point) → k.message_count ≤ 0 → p.faults ≤ base.faults → p.due ≤ base.due → MessagesTurn s era ns verdicts k p p
-  messages_skipped verdicts p h f d =
-      (f, d, refl, refl, refl, λ l ms c e w ids₀ kinds₀ indices₀ held. rw (none_read (read_signed_key_gen_msg base s) k.message_count (k.messages + 8) h ms c e) held)
+MessagesTurn s era ns verdicts k p q = k.messages ≤ length s → handling.MessagesCommitted era ns verdicts s k.message_count (k.messages + 8) k.id p q
 
 -- a moment as the loop over votes sees it, and as the loop over messages does: behind the votes, and behind the messages
 abbrev pub votes_at : Committed → Lists → voting.Point
@@ -117,10 +87,10 @@ module _ (s : List ℕ) (bytes : Bytes s) (era : ℕ) (ns : List Node) (verdicts
       let again = messages_again base s h.budget h.at x h.next h.read (lit< tt) (lit< tt) bytes k h.kept in
       let u = foldl (committed_vote base k.id) w x.votes in
       let r = foldl (committed_message base k.id) u x.messages in
-      let voted = v.3 (votes_within base s h.budget h.at x h.next h.read (lit< tt) (lit< tt) bytes k h.kept) x.votes h.next
+      let voted = v (votes_within base s h.budget h.at x h.next h.read (lit< tt) (lit< tt) bytes k h.kept) x.votes h.next
       (votes_again base s h.budget h.at x h.next h.read (lit< tt) (lit< tt) bytes k h.kept) w start l₀.ids l₀.kinds (o.faults, o.votes) in
       let on = messages_on k.id era ns (running.state_of d.state) (drop d.judged verdicts) d.due l₀.indices l.indices w x.votes s start q.tally voted.1 o.messages in
-      let handled = m.5 (messages_within base s h.budget h.at x h.next h.read (lit< tt) (lit< tt) bytes k h.kept) x.messages again.0 again.1 u l₀.ids l₀.kinds l₀.indices
+      let handled = m (messages_within base s h.budget h.at x h.next h.read (lit< tt) (lit< tt) bytes k h.kept) x.messages again.0 again.1 u l₀.ids l₀.kinds l₀.indices
       (voted.0, on) in
       let same : r ≡ committed_contrib base w x = (λ j. foldl (committed_message base (id j)) (foldl (committed_vote base (id j)) w x.votes) x.messages) ∙ sym (contrib_in_order base w x) in
       subst (λ (y : WorkOf). Holds s era ns verdicts start l₀ y d' l') same
@@ -130,6 +100,10 @@ module _ (s : List ℕ) (bytes : Bytes s) (era : ℕ) (ns : List Node) (verdicts
         messages = handled.1;
       })
 
+-- the contribution at a place of the list that a loop goes over
+pub contrib_next : (ks xs : List Contrib) → ks ≡ xs → (i : ℕ) → i < length ks → drop i xs ≡ get_or ks i no_contrib ∷ drop (i + 1) xs
+contrib_next ks xs e i h = ap (drop i) (sym e) ∙ drop-cons ks i no_contrib h ∙ (λ j. get_or ks i no_contrib ∷ drop (sym (add-one i) j) (e j))
+
 -- contributions before a place were committed: those from it on are left
 abbrev pub BatchLeft : List ℕ → ℕ → List Node → List ℕ → Tally → Found KeyGenStateOf → BatchIndex → Lists → ℕ → Committed → Lists → Type 0
 BatchLeft s era ns verdicts t g index l₀ i d l =
@@ -138,7 +112,7 @@ BatchLeft s era ns verdicts t g index l₀ i d l =
     → (w : WorkOf) × (committed base st verdicts cs ≡ foldl (committed_contrib base) w (drop i cs)) × Holds s era ns verdicts (begun_with st.counter) l₀ w d l
 
 module _ (s : List ℕ) (era : ℕ) (ns : List Node) (verdicts : List ℕ) (t : Tally) (index : BatchIndex) (l₀ : Lists) where
-  pub batch_starts : (state : KeyGenState)
+  pub batch_starts : (state : Option KeyGenState)
       → BatchLeft s era ns verdicts t (running.state_of state) index l₀ 0 (record { tally = t; state = state; judged = 0; faults = 0; due = 0 }) l₀
   unfolding committed
   batch_starts state st cs e n k v r h = (
@@ -152,13 +126,13 @@ module _ (s : List ℕ) (era : ℕ) (ns : List Node) (verdicts : List ℕ) (t : 
   )
 
   module _ (g : Found KeyGenStateOf) (i : ℕ) (d : Committed) (l : Lists) (left : BatchLeft s era ns verdicts t g index l₀ i d l) where
-    pub batch_turn : Bytes s → i < length (contribs_in index) → (d' : Committed) (l' : Lists) (q : voting.Point) → q.tally ≡ d'.tally
-        → VotesTurn s era ns (get_or index.contribs i no_contrib) (votes_at d l) q
-        → MessagesTurn s era ns verdicts (get_or index.contribs i no_contrib) (votes_done d q l) (messages_at d' l')
+    pub batch_turn : Bytes s → (k : Contrib) → drop i (contribs_in index) ≡ k ∷ drop (i + 1) (contribs_in index) → (d' : Committed) (l' : Lists) (q : voting.Point) → q.tally ≡ d'.tally
+        → VotesTurn s era ns k (votes_at d l) q
+        → MessagesTurn s era ns verdicts k (votes_done d q l) (messages_at d' l')
         → BatchLeft s era ns verdicts t g index l₀ (i + 1) d' l'
-    batch_turn bytes b d' l' q e v m st cs x₁ x₂ x₃ x₄ x₅ h =
+    batch_turn bytes k b d' l' q e v m st cs x₁ x₂ x₃ x₄ x₅ h =
         let o = left st cs x₁ x₂ x₃ x₄ x₅ h in
-        let x = kept_next base s index.contribs index.count cs h i b in (
+        let x = kept_more base s (contribs_in index) cs h i k b in (
           committed_contrib base o.0 x.0,
           o.1 ∙ fold_more (committed_contrib base) o.0 cs i x.0 x.2 _ refl,
           contrib_holds s bytes era ns verdicts (begun_with st.counter) l₀ o.0 x.0 _ x.1 d d' l l' q e v m o.2,
@@ -169,3 +143,9 @@ module _ (s : List ℕ) (era : ℕ) (ns : List Node) (verdicts : List ℕ) (t : 
         let o = left st cs x₁ x₂ x₃ x₄ x₅ h in
         let e : committed base st verdicts cs ≡ o.0 = o.1 ∙ fold_end (committed_contrib base) o.0 cs i (omega (arith, kept_length base s (contribs_in index) cs h)) in
         rw e o.2
+
+-- the same lists, by each of them
+pub lists_same : (s : List ℕ) (era : ℕ) (ns : List Node) (verdicts : List ℕ) (t : Tally) (g : Found KeyGenStateOf) (index : BatchIndex) (d : Committed) (l₀ l l' : Lists)
+    → BatchCommitted s era ns verdicts t g index d l₀ l → l'.ids ≡ l.ids → l'.kinds ≡ l.kinds → l'.indices ≡ l.indices → BatchCommitted s era ns verdicts t g index d l₀ l'
+lists_same s era ns verdicts t g index d l₀ l l' h i k x =
+    subst (λ (y : Lists). BatchCommitted s era ns verdicts t g index d l₀ y) (λ j. record { ids = sym i j; kinds = sym k j; indices = sym x j }) h

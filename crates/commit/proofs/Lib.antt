@@ -1,11 +1,11 @@
 pub mod FaultLaws
 pub mod HandledLaws
-pub mod AskLaws
+pub mod MessageLaws
 pub mod InsertLaws
 pub mod TallyLaws
 pub mod PutLaws
 pub mod StayedLaws
 pub mod HeldLaws
-pub mod VoteLaws
 pub mod TurnLaws
+pub mod VoteLaws
 pub mod BatchLaws

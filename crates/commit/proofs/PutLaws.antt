@@ -17,7 +17,7 @@ use Rattle.vote_counter.specs.VoteCounter.{obsolete, board_after}
 use Rattle.commit.specs.declared.tally.Entry.{Entry}
 use Rattle.commit.specs.Tally.{entry_voter, any_fresh, Fresh, Before, Tallied, none, kept, replaced, added}
 use Rattle.commit.proofs.InsertLaws.{Order, less, same, more, order, insert_past, insert_over, insert_before}
-use Rattle.commit.proofs.TallyLaws.{put_fresh, other_voter, own_voter, not_before, lower, tallied_voters}
+use Rattle.commit.proofs.TallyLaws.{put_fresh, marked, other_voter, own_voter, not_before, lower, tallied_voters}
 
 -- a vote before another is before those that the other is before
 before_too : (v u : SignedVoteOf) (xs : List SignedVoteOf) → voter_of v ≤ voter_of u → Before u xs → Before v xs
@@ -124,5 +124,5 @@ module _ (s : List ℕ) (era : ℕ) (ns : List Node) (v : SignedVoteOf) (a : Ent
     where
       go : (b : Bool) → takes_place voter_of limit (voter_of v) vs ≡ b
           → board_after b (insert_within voter_of limit v vs) now ≡ board_after (any_fresh (insert_within entry_voter limit a es)) (insert_within voter_of limit v vs) before
-      go true e = sym (cond_yes _ before (ap any_fresh (within_taken entry_voter limit a es (takes t limit ∙ e)) ∙ put_fresh a es f.marked))
+      go true e = sym (cond_yes _ before (ap any_fresh (within_taken entry_voter limit a es (takes t limit ∙ e)) ∙ put_fresh a es (marked s era ns f)))
       go false e = rw (within_left voter_of limit v vs e, within_left entry_voter limit a es (takes t limit ∙ e)) h

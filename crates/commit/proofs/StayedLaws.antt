@@ -8,12 +8,14 @@ use native.Mathlib.Omega.{arith}
 use lib.ListN.{length, length-append}
 use borrow.Author.Tests.{lt-ltb, le-ltb, eq-eqb, ne_eqb}
 use Rattle.lists.specs.Lists.{insert, has_key, insert_within, takes_place}
-use Rattle.lists.proofs.ListLaws.{cond_yes, cond_no}
+use Rattle.lists.proofs.ListLaws.{false_true, cond_yes, cond_no}
+use Rattle.std.specs.declared.option.Option.{Option}
+use Rattle.std.specs.declared.option.Option.TheVariants.{Some, None}
 use Rattle.lists.proofs.SortedLaws.{within_same, within_new}
 use Rattle.bincode.specs.Items.{foldl}
 use Rattle.bincode.specs.Sizes.{Sizes, base}
 use Rattle.network_info.specs.NetworkInfo.{key_of}
-use Rattle.votes.specs.Votes.{SignedVoteOf, read_signed_vote}
+use Rattle.votes.specs.Votes.{SignedVoteOf}
 use Rattle.signed_votes.specs.SignedVotes.{voter_of}
 use Rattle.vote_counter.specs.VoteCounter.{CounterOf, with_committed, obsolete, is_key, valid_vote, vote_effect, stored, Added, board_after, after_committed, add_committed}
 use Rattle.board.specs.declared.BoardRow.{BoardRow}
@@ -21,13 +23,13 @@ use Rattle.board.specs.Board.{worked_out}
 use Rattle.steps.specs.Steps.{WorkOf}
 use Rattle.commit.specs.declared.tally.Entry.{Entry}
 use Rattle.commit.specs.declared.tally.Tally.{Tally}
-use Rattle.commit.specs.Tally.{entries_of, any_fresh, begun_with, Fresh, Before, Tallied, none, kept, replaced, added, VotesHeld}
-use Rattle.commit.specs.Put.{put_read, put_in}
+use Rattle.commit.specs.Tally.{entries_of, is_placed, is_fresh, any_fresh, begun_with, Fresh, Before, Tallied, none, kept, replaced, added, VotesHeld}
+use Rattle.commit.specs.Put.{put_read, put_placed, put_in}
 use Rattle.commit.proofs.InsertLaws.{insert_over, insert_before, top, top_more, insert_behind, key_behind, lookup_behind}
-use Rattle.commit.proofs.TallyLaws.{tallied_length, tallied_same}
+use Rattle.commit.proofs.TallyLaws.{tallied_length, tallied_same, marked}
 
 -- an entry that is not of this batch
-pub put_none : (z : Sizes) (s : List ℕ) (c : CounterOf) (e : Entry) → e.fresh ≡ false → put_in z s c e ≡ c
+pub put_none : (z : Sizes) (s : List ℕ) (c : CounterOf) (e : Entry) → e.place ≡ None → put_in z s c e ≡ c
 unfolding put_in
 put_none z s c e f = rw f
 
@@ -35,11 +37,11 @@ put_none z s c e f = rw f
 pub put_nothing : (z : Sizes) (s : List ℕ) (c : CounterOf) (es : List Entry) → any_fresh es ≡ false → foldl (put_in z s) c es ≡ c
 unfolding any_fresh
 put_nothing z s c [] h = refl
-put_nothing z s c (e ∷ es) h = go e.fresh refl h (put_nothing z s c es)
+put_nothing z s c (e ∷ es) h = go e.place refl h (put_nothing z s c es)
   where
-    go : (b : Bool) → e.fresh ≡ b → cond b true (any_fresh es) ≡ false → (any_fresh es ≡ false → foldl (put_in z s) c es ≡ c) → foldl (put_in z s) (put_in z s c e) es ≡ c
-    go true f h ih = absurd (let y : ◌≡◌ {A = ℕ} 0 1 = cc in let x : ⊥ = omega arith in x)
-    go false f h ih = ap (λ (d : CounterOf). foldl (put_in z s) d es) (put_none z s c e f) ∙ ih h
+    go : (o : Option ℕ) → e.place ≡ o → cond (is_placed o) true (any_fresh es) ≡ false → (any_fresh es ≡ false → foldl (put_in z s) c es ≡ c) → foldl (put_in z s) (put_in z s c e) es ≡ c
+    go (Some place) f h ih = absurd (false_true (sym h))
+    go None f h ih = ap (λ (d : CounterOf). foldl (put_in z s) d es) (put_none z s c e f) ∙ ih h
 
 -- a vote that is not obsolete, of the era and signed, is stored
 pub add_good : (z : Sizes) (c : CounterOf) (v : SignedVoteOf) → obsolete c.committed v ≡ false → v.vote.era ≡ c.era → is_key v.sig (key_of c.nodes (voter_of v)) ≡ true
@@ -55,7 +57,7 @@ module _ (s : List ℕ) (c : CounterOf) where
   unfolding put_in
   put_fresh v e ys rs f o t =
       let d = with_committed c ys rs in
-      cond_yes (put_read base d (read_signed_vote base s e.place)) d f.marked
+      ap (put_placed base s d) f.placed
       ∙ ap (put_read base d) f.stands ∙ ap (λ (r : Added). r.counter) (add_good base d v o f.of_era f.signed)
       ∙ ap (with_committed c (insert_within voter_of base.nodes v ys)) (cond_yes (worked_out (insert_within voter_of base.nodes v ys)) rs t)
 
@@ -110,14 +112,14 @@ module _ (s : List ℕ) (c : CounterOf) where
     joined us = sym (append_assoc p (v ∷ []) us)
 
     -- an entry of a vote before, and one of this batch
-    step_kept : e.fresh ≡ false → ys ≡ p ++ (v ∷ xs) → foldl (put_in base s) (with_committed c (at xs) rs) es ≡ behind (at vs) rs es
+    step_kept : e.place ≡ None → ys ≡ p ++ (v ∷ xs) → foldl (put_in base s) (with_committed c (at xs) rs) es ≡ behind (at vs) rs es
         → foldl (put_in base s) (with_committed c ys rs) (e ∷ es) ≡ behind (p ++ (v ∷ vs)) rs (e ∷ es)
     unfolding any_fresh
     step_kept f q r =
         ap (λ (d : CounterOf). foldl (put_in base s) d es) (put_none base s (with_committed c ys rs) e f ∙ ap (λ (us : List SignedVoteOf). with_committed c us rs) (q ∙ joined xs)) ∙ r
-        ∙ (λ i. with_committed c (sym (joined vs) i) (board_after (sym (cond_no true (any_fresh es) f) i) (sym (joined vs) i) rs))
+        ∙ (λ i. with_committed c (sym (joined vs) i) (board_after (sym (cond_no true (any_fresh es) (ap is_placed f)) i) (sym (joined vs) i) rs))
 
-    step_fresh : e.fresh ≡ true → (any_fresh es ≡ false → xs ≡ vs) → put_in base s (with_committed c ys rs) e ≡ with_committed c (p ++ (v ∷ xs)) (worked_out (p ++ (v ∷ xs)))
+    step_fresh : is_fresh e ≡ true → (any_fresh es ≡ false → xs ≡ vs) → put_in base s (with_committed c ys rs) e ≡ with_committed c (p ++ (v ∷ xs)) (worked_out (p ++ (v ∷ xs)))
         → foldl (put_in base s) (with_committed c (at xs) (worked_out (at xs))) es ≡ behind (at vs) (worked_out (at xs)) es
         → foldl (put_in base s) (with_committed c ys rs) (e ∷ es) ≡ behind (p ++ (v ∷ vs)) rs (e ∷ es)
     unfolding any_fresh
@@ -138,7 +140,7 @@ module _ (s : List ℕ) (c : CounterOf) where
       let a = length-append p (v ∷ []) in
       let b : top voter_of p ≤ voter_of v = omega arith in
       let u = put_over v p b x xs q in
-      step_fresh p v e (p ++ (x ∷ xs)) xs vs es rs f.marked (tallied_same s c.era c.nodes t)
+      step_fresh p v e (p ++ (x ∷ xs)) xs vs es rs (marked s c.era c.nodes f) (tallied_same s c.era c.nodes t)
       (put_fresh v e (p ++ (x ∷ xs)) rs f (not_obsolete v p b (x ∷ xs) o) u.0 ∙ ap (λ (us : List SignedVoteOf). with_committed c us (worked_out us)) u.1)
       (put_rest t (p ++ (v ∷ [])) (worked_out ((p ++ (v ∷ [])) ++ xs)) (omega (arith, top_more voter_of p v)) (omega arith))
   put_rest (added {v = v} {e = e} {xs = xs} {vs = vs} {es = es} f k q o t) p rs h l =
@@ -147,7 +149,7 @@ module _ (s : List ℕ) (c : CounterOf) where
       let m = tallied_length s c.era c.nodes t in
       let r : length (p ++ xs) < base.nodes = omega (arith, length-append p xs) in
       let u = put_between v p b xs q r in
-      step_fresh p v e (p ++ xs) xs vs es rs f.marked (tallied_same s c.era c.nodes t)
+      step_fresh p v e (p ++ xs) xs vs es rs (marked s c.era c.nodes f) (tallied_same s c.era c.nodes t)
       (put_fresh v e (p ++ xs) rs f (not_obsolete v p b xs o) u.0 ∙ ap (λ (us : List SignedVoteOf). with_committed c us (worked_out us)) u.1)
       (put_rest t (p ++ (v ∷ [])) (worked_out ((p ++ (v ∷ [])) ++ xs)) (omega (arith, top_more voter_of p v)) (omega arith))
 

@@ -15,7 +15,7 @@ use Rattle.votes.specs.Votes.{SignedVoteOf}
 use Rattle.signed_votes.specs.SignedVotes.{voter_of, num_of}
 use Rattle.vote_counter.specs.VoteCounter.{at_or_below, obsolete}
 use Rattle.commit.specs.declared.tally.Entry.{Entry}
-use Rattle.commit.specs.Tally.{entry_voter, entry_num, kept_entry, outdated, any_fresh, Numbered, Tallied, none, kept, replaced, added}
+use Rattle.commit.specs.Tally.{entry_voter, entry_num, kept_entry, outdated, is_placed, is_fresh, any_fresh, Numbered, Fresh, Tallied, none, kept, replaced, added}
 use Rattle.commit.proofs.InsertLaws.{Order, less, same, more, order}
 
 -- the first of some votes is another voter's: those behind it decide
@@ -44,7 +44,7 @@ none_fresh [] = refl
 none_fresh (v ∷ vs) = none_fresh vs
 
 -- one that is put in is
-pub put_fresh : (a : Entry) (es : List Entry) → a.fresh ≡ true → any_fresh (insert entry_voter a es) ≡ true
+pub put_fresh : (a : Entry) (es : List Entry) → is_fresh a ≡ true → any_fresh (insert entry_voter a es) ≡ true
 unfolding any_fresh insert
 put_fresh a [] f = cond_yes true false f
 put_fresh a (e ∷ es) f = go (ltb e.voter a.voter) (eqb e.voter a.voter) (put_fresh a es f)
@@ -54,7 +54,7 @@ put_fresh a (e ∷ es) f = go (ltb e.voter a.voter) (eqb e.voter a.voter) (put_f
     past false h = h
 
     go : (p q : Bool) → any_fresh (insert entry_voter a es) ≡ true → any_fresh (cond p (e ∷ insert entry_voter a es) (cond q (a ∷ es) (a ∷ e ∷ es))) ≡ true
-    go true q h = past e.fresh h
+    go true q h = past (is_fresh e) h
     go false true h = cond_yes true (any_fresh es) f
     go false false h = cond_yes true (any_fresh (e ∷ es)) f
 
@@ -63,6 +63,10 @@ module _ (s : List ℕ) (era : ℕ) (ns : List Node) where
   pub tallied_start : (low : ℕ) (vs : List SignedVoteOf) → Tallied s era ns low vs vs (map kept_entry vs)
   tallied_start low [] = none
   tallied_start low (v ∷ vs) = kept refl (record { by_voter = refl; by_num = refl }) (tallied_start (max low (voter_of v + 1)) vs)
+
+  -- an entry of this batch has a place
+  pub marked : {v : SignedVoteOf} {e : Entry} → Fresh s era ns v e → is_fresh e ≡ true
+  marked f = ap is_placed f.placed
 
   -- a lower bound does too
   pub lower : {low : ℕ} {xs vs : List SignedVoteOf} {es : List Entry} (k : ℕ) → k ≤ low → Tallied s era ns low xs vs es → Tallied s era ns k xs vs es
@@ -82,9 +86,9 @@ module _ (s : List ℕ) (era : ℕ) (ns : List Node) where
   pub tallied_same : {low : ℕ} {xs vs : List SignedVoteOf} {es : List Entry} → Tallied s era ns low xs vs es → any_fresh es ≡ false → xs ≡ vs
   unfolding any_fresh
   tallied_same none h = refl
-  tallied_same (kept {v} {e} {xs} {vs} {es} f n t) h = ap (λ (us : List SignedVoteOf). v ∷ us) (tallied_same t (sym (cond_no true (any_fresh es) f) ∙ h))
-  tallied_same (replaced {x} {v} {e} {xs} {vs} {es} f l q o t) h = absurd (false_true (sym h ∙ cond_yes true (any_fresh es) f.marked))
-  tallied_same {xs} (added {v} {e} {vs} {es} f l b o t) h = absurd (false_true (sym h ∙ cond_yes true (any_fresh es) f.marked))
+  tallied_same (kept {v} {e} {xs} {vs} {es} f n t) h = ap (λ (us : List SignedVoteOf). v ∷ us) (tallied_same t (sym (cond_no true (any_fresh es) (ap is_placed f)) ∙ h))
+  tallied_same (replaced {x} {v} {e} {xs} {vs} {es} f l q o t) h = absurd (false_true (sym h ∙ cond_yes true (any_fresh es) (marked f)))
+  tallied_same {xs} (added {v} {e} {vs} {es} f l b o t) h = absurd (false_true (sym h ∙ cond_yes true (any_fresh es) (marked f)))
 
   pub tallied_length : {low : ℕ} {xs vs : List SignedVoteOf} {es : List Entry} → Tallied s era ns low xs vs es → length xs ≤ length es
   tallied_length none = omega arith

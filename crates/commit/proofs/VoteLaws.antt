@@ -1,12 +1,12 @@
 -- What a committed vote comes to, decided on the entries: nothing, an entry more, or a fault of the proposer.
 -- Assumes nothing.
-use Prim.Native.Nat.{ℕ, ◌≤◌}
+use Prim.Native.Nat.{ℕ}
 use mathlib.Core.Path.{◌≡◌, refl, sym, ap, ◌∙◌, subst}
 use mathlib.Core.List.{List}
 use mathlib.Core.Bool.{Bool, true, false, cond}
 use lib.Dec.{eqb}
-use lib.ListN.{length}
 use borrow.Author.Tests.{eqb-true}
+use Rattle.std.specs.declared.option.Option.TheVariants.{Some}
 use Rattle.lists.specs.Lists.{insert_within}
 use Rattle.lists.proofs.ListLaws.{false_true}
 use Rattle.bincode.specs.Read.{value}
@@ -29,6 +29,7 @@ use Rattle.commit.specs.Votes.{good_head, Point, HeldAt}
 use Rattle.commit.proofs.TallyLaws.{outdated_is}
 use Rattle.commit.proofs.PutLaws.{within_tallied, put_board}
 use Rattle.commit.proofs.StayedLaws.{add_good}
+use Rattle.commit.proofs.TurnLaws.{within_bound}
 
 -- what a good head says
 good_parts : (era : ℕ) (ns : List Node) (h : VoteHead) → good_head era ns h ≡ true → (h.era ≡ era) × (is_key h.sig (key_of ns h.voter) ≡ true)
@@ -100,23 +101,24 @@ module _ (s : List ℕ) (era : ℕ) (ns : List Node) (start : Begun) (ids₀ kin
 
     module _ (g : good_head era ns hd ≡ true) (place c : ℕ) (stands : read_signed_vote base s place ≡ value v c) where
       abbrev put : Entry
-      put = record { voter = hd.voter; fresh = true; num = hd.num; place = place }
+      put = record { voter = hd.voter; num = hd.num; place = Some place }
 
       fresh : Fresh s era ns v put
       fresh =
           let k = good_parts era ns (head_of v) (good_told true g) in
           record {
-            marked = refl;
             numbers = record { by_voter = ap (λ (x : VoteHead). x.voter) same; by_num = ap (λ (x : VoteHead). x.num) same };
+            place = place;
+            placed = refl;
             behind = c;
             stands = stands;
             of_era = k.0;
             signed = k.1;
           }
 
-      pub held_good : (t' : Tally) → entries_of t' ≡ insert_within entry_voter base.nodes put (entries_of p.tally) → length (entries_of t') ≤ base.nodes
+      pub held_good : (t' : Tally) → entries_of t' ≡ insert_within entry_voter base.nodes put (entries_of p.tally)
           → HeldAt s era ns start ids₀ kinds₀ (committed_vote base proposer w v) (record { tally = t'; faults = p.faults; ids = p.ids; kinds = p.kinds })
-      held_good t' e l =
+      held_good t' e =
           let n = number_told false o in
           rw (vote_good s era ns start w p.tally h.1 v proposer n (good_told true g)) (
             record { count = h.0.count; by_id = h.0.by_id; by_kind = h.0.by_kind },
@@ -125,6 +127,6 @@ module _ (s : List ℕ) (era : ℕ) (ns : List Node) (start : Begun) (ids₀ kin
               by_map = h.1.by_map;
               by_entry = rw e (within_tallied s era ns v put fresh base.nodes h.1.by_entry (known s era ns start w p.tally h.1 v proposer ∙ n));
               by_board = rw e (put_board s era ns v put fresh base.nodes h.1.by_entry w.state.counter.board start.board h.1.by_board);
-              room = l;
+              room = rw e (within_bound base.nodes put (entries_of p.tally) h.1.room);
             },
           )

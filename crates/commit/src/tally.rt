@@ -1,27 +1,24 @@
-// The committed votes while a batch is handled, as small numbers by ascending voter: a sorted array with a count. A whole vote is 300 bytes, and voter and number
-// decide what another vote does.
-ghost use Rattle.std.specs.Prelude.{◌≡◌, ◌∷◌, ◌++◌, map, ◌≤◌, ◌<◌, length, take, drop};
-ghost use Rattle.lists.specs.Lists.{below, insert_within};
+// The committed votes while a batch is handled, as small numbers by ascending voter. A whole vote is 300 bytes, and voter and number decide what another vote does.
+ghost use Rattle.std.specs.Prelude.{◌≡◌, map, ◌≤◌, length};
 ghost use Rattle.bincode.specs.Sizes.{base};
 ghost use Rattle.signed_votes.specs.SignedVotes.{votes_of};
 ghost use Rattle.commit.specs.Tally.{entries_of, entry_voter, no_entry, no_entries, kept_entry, outdated, any_fresh};
 
+use array_list::{ArrayList, Keyed};
 use signed_votes::SignedVotes;
 
-// A fresh one is a vote of this batch, which stands at `place` of its bytes; another was there before, and its place says nothing.
+// A vote of this batch has the place where it stands in the batch's bytes; another was there before.
 #[derive(Clone, Copy)]
 pub struct Entry {
     pub voter: u32,
-    pub fresh: bool,
     pub num: u64,
-    pub place: usize,
+    pub place: Option<usize>,
 }
 
-// Places from `count` on do not count.
+// Voters ascend.
 #[derive(Clone, Copy)]
 pub struct Tally {
-    pub count: usize,
-    pub entries: [Entry; Tally::LIMIT],
+    pub entries: ArrayList<Entry, { Tally::LIMIT }>,
 }
 
 impl Entry {
@@ -31,10 +28,18 @@ impl Entry {
     {
         Entry {
             voter: 0,
-            fresh: false,
             num: 0,
-            place: 0,
+            place: None,
         }
+    }
+}
+
+// Entries go by the voter.
+impl Keyed for Entry {
+    ghost key_of = { entry_voter };
+
+    fn key(&self) -> u32 {
+        self.voter
     }
 }
 
@@ -45,8 +50,7 @@ impl Tally {
         ensures { result ≡ no_entries }
     {
         Tally {
-            count: 0,
-            entries: [Entry::empty(); Tally::LIMIT],
+            entries: ArrayList::empty(Entry::empty()),
         }
     }
 
@@ -54,96 +58,35 @@ impl Tally {
     pub fn of(votes: SignedVotes) -> Self
         ensures { (entries_of result ≡ map kept_entry (votes_of votes)) × (length (entries_of result) ≤ base.nodes) }
     {
-        let n = votes.len();
         let mut t = Tally::empty();
-        for i in 0..n {
-            let x = votes.votes[i];
-            let vote = x.vote;
-            t.entries[i] = Entry {
+        for x in votes.votes.as_slice() {
+            t.entries.push(Entry {
                 voter: x.voter,
-                fresh: false,
-                num: vote.num,
-                place: 0,
-            };
+                num: x.vote.num,
+                place: None,
+            });
         }
-        t.count = n;
         t
     }
 
-    // How many entries there are: a count past the array counts as the array's length.
-    pub fn len(self) -> usize
-        ensures { (result ≡ length (entries_of self)) × (result ≤ base.nodes) }
+    // How many entries there are.
+    pub fn len(&self) -> usize
+        ensures { (result ≡ length (entries_of self.now)) × (result ≤ base.nodes) }
     {
-        let n = self.count;
-        if n < Tally::LIMIT { n } else { Tally::LIMIT }
+        self.entries.len()
     }
 
     // Whether a voter's vote with a number would be at or below the one there is.
-    pub fn is_obsolete(self, voter: u32, num: u64) -> bool
-        ensures { result ≡ outdated (entries_of self) voter num }
+    pub fn is_obsolete(&self, voter: u32, num: u64) -> bool
+        ensures { result ≡ outdated (entries_of self.now) voter num }
     {
-        let n = self.len();
-        for i in 0..n {
-            let e = self.entries[i];
-            if e.voter == voter {
-                return num <= e.num;
-            }
-        }
-        false
+        self.entries.get(voter).is_some_and(|e| num <= e.num)
     }
 
     // Whether some vote is of this batch; where none is, the counter stays as it is.
-    pub fn has_fresh(self) -> bool
-        ensures { result ≡ any_fresh (entries_of self) }
+    pub fn has_fresh(&self) -> bool
+        ensures { result ≡ any_fresh (entries_of self.now) }
     {
-        let n = self.len();
-        for i in 0..n {
-            let e = self.entries[i];
-            if e.fresh {
-                return true;
-            }
-        }
-        false
-    }
-
-    // How many entries stand before the first whose voter is not below this one.
-    fn place(self, voter: u32) -> usize
-        ensures { (result ≡ below entry_voter voter (entries_of self)) × (result ≤ length (entries_of self)) }
-    {
-        let n = self.len();
-        for i in 0..n {
-            let e = self.entries[i];
-            if voter <= e.voter {
-                return i;
-            }
-        }
-        n
-    }
-
-    // The entries from a place on moved up by one, with an entry at that place; there is room.
-    fn shift(mut self, at: usize, n: usize, x: Entry) -> Self
-        requires { (at ≤ n) × (n < base.nodes) }
-        ensures { (entries_of result ≡ take at (take n self.entries) ++ (x ∷ drop at (take n self.entries))) × (length (entries_of result) ≤ base.nodes) }
-    {
-        self.entries.copy_within(at..n, at + 1);
-        self.entries[at] = x;
-        self.count = n + 1;
-        self
-    }
-
-    // The entries with one put in: in place of its voter's, or where its voter belongs. A full array has no place for another voter.
-    pub fn put(mut self, x: Entry) -> Self
-        ensures { (entries_of result ≡ insert_within entry_voter base.nodes x (entries_of self)) × (length (entries_of result) ≤ base.nodes) }
-    {
-        let n = self.len();
-        let at = self.place(x.voter);
-        if at < n && self.entries[at].voter == x.voter {
-            self.entries[at] = x;
-            return self;
-        }
-        if n < Tally::LIMIT {
-            return self.shift(at, n, x);
-        }
-        self
+        self.entries.as_slice().iter().any(|e| e.place.is_some())
     }
 }

@@ -3,8 +3,9 @@
 use Prim.Native.Nat.{ℕ}
 use mathlib.Core.Path.{◌≡◌, refl, ap, ◌∙◌}
 use mathlib.Core.List.{List}
-use mathlib.Core.Bool.{Bool, true, false, cond}
-use native.Mathlib.Omega.{arith}
+use mathlib.Core.Bool.{true, false}
+use Rattle.std.specs.Prelude.{Some}
+use Rattle.std.specs.declared.option.Option.{Option}
 use Rattle.lists.specs.Lists.{Found, found, nothing}
 use Rattle.lists.proofs.ListLaws.{cond_yes, cond_no}
 use Rattle.bincode.specs.Sizes.{Sizes, base}
@@ -13,15 +14,14 @@ use Rattle.pub_key_map.specs.declared.PubKeyMap.{PubKeyMap}
 use Rattle.pub_key_map.specs.PubKeyMap.{nodes_of}
 use Rattle.honey_badger.specs.declared.EncryptionSchedule.{EncryptionSchedule}
 use Rattle.change.specs.declared.Change.{Change}
-use Rattle.change.specs.declared.ChangeKind.{ChangeKind}
-use Rattle.change.specs.declared.ChangeKind.TheVariants as kind
+use Rattle.change.specs.declared.Change.TheVariants.{NodeChange, EncryptionSchedule as ScheduleChange}
 use Rattle.params.specs.declared.Params.{Params}
-use Rattle.change.specs.Change.{ChangeOf, change_of, change_of_kind, node_change, encryption_schedule, ChangeStateOf, in_progress, complete}
+use Rattle.change.specs.Change.{ChangeOf, change_of, node_change, encryption_schedule, ChangeStateOf, in_progress, complete}
 use Rattle.due.specs.declared.DueItem.{DueItem}
 use Rattle.vote_counter.specs.declared.VoteCounter.{VoteCounter}
 use Rattle.vote_counter.specs.VoteCounter.{compute_winner, counter_of, new_held}
 use Rattle.key_gen.specs.declared.KeyGen.{KeyGen}
-use Rattle.key_gen.specs.KeyGen.{KeyGenOf, key_gen_of, fresh_held}
+use Rattle.key_gen.specs.KeyGen.{key_gen_of, fresh_held}
 use Rattle.key_gen.proofs.KeyGenLaws.{fresh}
 use Rattle.key_gen_message.specs.KeyGenMessage.{SignedKeyGenMsgOf}
 use Rattle.message_store.specs.MessageStore.{from_era}
@@ -36,22 +36,6 @@ pub same_decision : {s t : StateOf} {c d : ChangeStateOf} {xs ys : List DueItem}
     → s ≡ t → c ≡ d → xs ≡ ys → p ≡ q → ◌≡◌ {A = Decided} (record { state = s; change = c; due = xs; recipe = p }) (record { state = t; change = d; due = ys; recipe = q })
 same_decision a b e f = λ i. record { state = a i; change = b i; due = e i; recipe = f i }
 
--- a change as code holds it: a map, or a schedule
-module _ (c : Change) where
-  pub change_map : c.kind ≡ kind.NodeChange → change_of c ≡ node_change (nodes_of c.map)
-  change_map k = ap (λ (k : ChangeKind). change_of_kind k c.map) k
-
-  pub change_schedule : (x : EncryptionSchedule) → c.kind ≡ kind.EncryptionSchedule x → change_of c ≡ encryption_schedule x
-  change_schedule x k = ap (λ (k : ChangeKind). change_of_kind k c.map) k
-
--- key generation that is ready is one that runs
-pub ready_runs : (k : KeyGenState) → running.ready_state (running.state_of k) ≡ true → running.state_of k ≡ found (running.running_of k)
-ready_runs k = go k.running (running.running_of k)
-  where
-    go : (b : Bool) (g : running.KeyGenStateOf) → running.ready_state (cond b (found g) nothing) ≡ true → cond b (found g) nothing ≡ found g
-    go true g e = refl
-    go false g e = absurd (let z : ◌≡◌ {A = ℕ} 0 1 = cc in let y : ⊥ = omega arith in y)
-
 -- a new era as code begins it: no votes, and a store without lower eras
 pub era_begun : (era : ℕ) (c v : VoteCounter) (m : PubKeyMap) (p : Params) (g : Found running.KeyGenStateOf) (st : List SignedKeyGenMsgOf) (l : Found Stamp)
     → v ≡ new_held c.our_id c.secret_key m era
@@ -61,13 +45,13 @@ unfolding new_era
 era_begun era c v m p g st l e = ap {B = StateOf} (λ (x : VoteCounter). record { counter = counter_of x; params = p; key_gen = g; store = from_era era st; last = l }) e
 
 -- the same with a fresh key generation
-pub map_begun : (era : ℕ) (c v : VoteCounter) (m : PubKeyMap) (p : Params) (k h : KeyGenState) (x : KeyGen) (st : List SignedKeyGenMsgOf) (l : Found Stamp)
-    → v ≡ new_held c.our_id c.secret_key c.pub_keys era → x ≡ fresh_held c.our_id m → running.state_of h ≡ found (running.fresh_state base (key_gen_of x))
-    → parts_of p v h (from_era era st) l ≡ key_gen_for base (nodes_of m) (new_era era (nodes_of c.pub_keys) (parts_of p c k st l))
+pub map_begun : (era : ℕ) (c v : VoteCounter) (m : PubKeyMap) (p : Params) (k : Option KeyGenState) (h : KeyGenState) (x : KeyGen) (st : List SignedKeyGenMsgOf) (l : Found Stamp)
+    → v ≡ new_held c.our_id c.secret_key c.pub_keys era → x ≡ fresh_held c.our_id m → running.running_of h ≡ running.fresh_state base (key_gen_of x)
+    → parts_of p v (Some h) (from_era era st) l ≡ key_gen_for base (nodes_of m) (new_era era (nodes_of c.pub_keys) (parts_of p c k st l))
 unfolding key_gen_for new_era
 map_begun era c v m p k h x st l e f g =
-    let begun : running.state_of h ≡ found (fresh_key_gen base c.our_id (nodes_of m)) = g ∙ ap {B = Found running.KeyGenStateOf} (λ (y : KeyGenOf). found (running.fresh_state base y)) (ap key_gen_of f ∙ fresh c.our_id m) in
-    λ i. record { counter = counter_of (e i); params = p; key_gen = begun i; store = from_era era st; last = l }
+    let begun : running.running_of h ≡ fresh_key_gen base c.our_id (nodes_of m) = g ∙ ap (running.fresh_state base) (ap key_gen_of f ∙ fresh c.our_id m) in
+    λ i. record { counter = counter_of (e i); params = p; key_gen = found (begun i); store = from_era era st; last = l }
 
 module _ (z : Sizes) (era : ℕ) (s : StateOf) where
   -- a map wins

@@ -1,3 +1,2 @@
-pub mod ClearLaws
 pub mod DecisionLaws
 pub mod PageLaws

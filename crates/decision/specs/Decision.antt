@@ -1,5 +1,5 @@
 -- 01, steps 6 to 8: what a batch decides, once its votes and messages are in.
-use Rattle.std.specs.Prelude.{ℕ, ◌-◌, List, [], ◌∷◌, ◌++◌, Bool, false, cond, take, drop, replicate, None}
+use Rattle.std.specs.Prelude.{ℕ, List, [], ◌∷◌, Bool, false, cond, None}
 use Rattle.std.specs.declared.option.Option.{Option}
 use Rattle.lists.specs.Lists.{Found, found, nothing, option_as_found}
 use Rattle.bincode.specs.Sizes.{Sizes}
@@ -14,9 +14,6 @@ use Rattle.due.specs.declared.DueKind.TheVariants.{Part}
 use Rattle.due.specs.declared.DueItem.{DueItem}
 use Rattle.vote_counter.specs.declared.VoteCounter.{VoteCounter}
 use Rattle.vote_counter.specs.VoteCounter.{compute_winner, counter_of}
-use Rattle.key_gen.specs.declared.Proposal.{Proposal}
-use Rattle.key_gen.specs.declared.KeyGen.{KeyGen}
-use Rattle.key_gen.specs.KeyGen.{no_proposal}
 use Rattle.key_gen_message.specs.KeyGenMessage.{SignedKeyGenMsgOf}
 use Rattle.key_gen_state.specs.declared.KeyGenState.{KeyGenState}
 use Rattle.key_gen_state.specs.KeyGenState.{KeyGenStateOf, ready_state, state_of}
@@ -93,7 +90,7 @@ abbrev pub said_recipe : Option Recipe → Found RecipeOf
 said_recipe r = option_as_found recipe_of r
 
 -- the state that parts make, whatever the store holds and was reported last
-abbrev pub parts_of : Params → VoteCounter → KeyGenState → List SignedKeyGenMsgOf → Found Stamp → StateOf
+abbrev pub parts_of : Params → VoteCounter → Option KeyGenState → List SignedKeyGenMsgOf → Found Stamp → StateOf
 parts_of p c k st l = record { counter = counter_of c; params = p; key_gen = state_of k; store = st; last = l }
 
 -- where an era begins, the store loses what is of lower ones
@@ -107,7 +104,7 @@ decided_of era st l d =
     }
 
 -- the struct of a decision without a recipe
-abbrev pub without_recipe : Params → VoteCounter → KeyGenState → Bool → ChangeState → Bool → Decision
+abbrev pub without_recipe : Params → VoteCounter → Option KeyGenState → Bool → ChangeState → Bool → Decision
 without_recipe p c k restarted change due =
     record {
       params = p;
@@ -127,11 +124,3 @@ is_empty_map nothing = false
 
 unfoldable pub empty_wins : StateOf → Bool
 empty_wins s = cond (ready_state s.key_gen) false (is_empty_map (compute_winner s.counter))
-
--- proposals of which those from one place on to another are cleared
-unfoldable pub cleared : ℕ → ℕ → List Proposal → List Proposal
-cleared i n ps = take i ps ++ (replicate (n - i) no_proposal ++ drop n ps)
-
--- the struct with its proposals cleared so
-abbrev pub cleared_held : KeyGen → ℕ → ℕ → KeyGen
-cleared_held g i n = record { our_id = g.our_id; pub_keys = g.pub_keys; proposals = cleared i n g.proposals }

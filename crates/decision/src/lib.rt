@@ -2,22 +2,20 @@
 // All but the message store is handed over and back; the store is filtered by the caller where an era begins.
 #![tactic(auto)]
 
-ghost use Rattle.std.specs.Prelude.{◌≡◌, List, ◌≤◌};
-ghost use Rattle.lists.specs.Lists.{Found, found, nothing};
+ghost use Rattle.std.specs.Prelude.{◌≡◌, List, Some};
+ghost use Rattle.lists.specs.Lists.{Found, found};
 ghost use Rattle.bincode.specs.Sizes.{base};
 ghost use Rattle.pub_key_map.specs.PubKeyMap.{nodes_of};
-ghost use Rattle.change.specs.Change.{change_of};
 ghost use Rattle.vote_counter.specs.VoteCounter.{counter_of, compute_winner};
-ghost use Rattle.key_gen.specs.KeyGen.{fresh_held};
 ghost use Rattle.key_gen_message.specs.KeyGenMessage.{SignedKeyGenMsgOf};
 ghost use Rattle.key_gen_state.specs.KeyGenState as running;
 ghost use Rattle.dynamic_honey_badger.specs.State.{Stamp, candidate_nodes};
-ghost use Rattle.decision.specs.Decision.{parts_of, without_recipe, decided_of, elected_of, completed_by, is_candidate};
-ghost use Rattle.decision.specs.Decision.{map_wins, with_schedule, schedule_wins, elected_by, decide_by, is_empty_map, cleared_held};
+ghost use Rattle.decision.specs.Decision.{parts_of, decided_of, elected_of, completed_by, is_candidate};
+ghost use Rattle.decision.specs.Decision.{map_wins, schedule_wins, elected_by, decide_by, is_empty_map};
 
-use change::{Change, ChangeKind, ChangeState};
+use change::{Change, ChangeState};
 use honey_badger::EncryptionSchedule;
-use key_gen::{KeyGen, Proposal};
+use key_gen::KeyGen;
 use key_gen_state::KeyGenState;
 use params::Params;
 use pub_key_map::PubKeyMap;
@@ -30,7 +28,7 @@ use vote_counter::VoteCounter;
 pub struct Decision {
     pub params: Params,
     pub vote_counter: VoteCounter,
-    pub key_gen_state: KeyGenState,
+    pub key_gen_state: Option<KeyGenState>,
     pub restarted: bool,
     pub change: ChangeState,
     pub part_due: bool,
@@ -47,9 +45,7 @@ pub fn elect(counter: VoteCounter) -> Option<Change>
         return None;
     }
     let i = counter.compute_winner()?;
-    let x = committed.votes[i];
-    let vote = x.vote;
-    let change = vote.change;
+    let change = committed.votes.items[i].vote.change;
     Some(change)
 }
 
@@ -57,51 +53,22 @@ pub fn elect(counter: VoteCounter) -> Option<Change>
 pub fn is_empty_map(e: Option<Change>) -> bool
     ensures { result ≡ is_empty_map (elected_of e) }
 {
-    let Some(change) = e else {
-        return false;
-    };
-    let kind = change.kind;
-    let map = change.map;
-    match kind {
-        ChangeKind::NodeChange => map.len() == 0,
-        ChangeKind::EncryptionSchedule(_) => false,
-    }
-}
-
-// A decision without a recipe.
-fn decided(
-    params: Params,
-    vote_counter: VoteCounter,
-    key_gen_state: KeyGenState,
-    restarted: bool,
-    change: ChangeState,
-    part_due: bool,
-) -> Decision
-    ensures { result ≡ without_recipe params vote_counter key_gen_state restarted change part_due }
-{
-    Decision {
-        params,
-        vote_counter,
-        key_gen_state,
-        restarted,
-        change,
-        part_due,
-        recipe: None,
+    match e {
+        Some(Change::NodeChange(map)) => map.len() == 0,
+        Some(Change::EncryptionSchedule(_)) | None => false,
     }
 }
 
 // Step 6: the candidate map takes effect, key generation ends, a new era begins.
-fn complete(params: Params, counter: VoteCounter, state: KeyGenState, era: u64) -> Decision
-    ensures { (st : List SignedKeyGenMsgOf) (l : Found Stamp) → decided_of era st l result ≡ completed_by era (parts_of params counter state st l) (found (running.running_of state)) }
+fn complete(params: Params, counter: VoteCounter, ended: KeyGenState, era: u64) -> Decision
+    ensures { (st : List SignedKeyGenMsgOf) (l : Found Stamp) → decided_of era st l result ≡ completed_by era (parts_of params counter (Some ended) st l) (found (running.running_of ended)) }
 {
-    let key_gen = state.key_gen;
+    let key_gen = ended.key_gen;
     let map = key_gen.pub_keys;
-    let mut ended = state;
-    ended.running = false;
     Decision {
         params,
         vote_counter: VoteCounter::new(counter.our_id, counter.secret_key, map, era),
-        key_gen_state: ended,
+        key_gen_state: None,
         restarted: true,
         change: ChangeState::complete(Change::node_change(map)),
         part_due: false,
@@ -110,43 +77,20 @@ fn complete(params: Params, counter: VoteCounter, state: KeyGenState, era: u64) 
 }
 
 // Whether key generation runs for just this map.
-fn is_candidate(state: KeyGenState, map: PubKeyMap) -> bool
+fn is_candidate(state: Option<KeyGenState>, map: PubKeyMap) -> bool
     ensures { result ≡ is_candidate (candidate_nodes (running.state_of state)) (nodes_of map) }
 {
-    let key_gen = state.key_gen;
-    let candidate = key_gen.pub_keys;
-    state.running && candidate.same(map)
-}
-
-// The proposals from one place on to another cleared.
-fn clear(mut g: KeyGen, from: usize, to: usize) -> KeyGen
-    requires { (from ≤ to) × (to ≤ base.nodes) }
-    ensures { result ≡ cleared_held g from to }
-{
-    for i in from..to {
-        g.proposals[i] = Proposal::empty();
+    match state {
+        Some(running) => running.key_gen.pub_keys.same(map),
+        None => false,
     }
-    g
-}
-
-// A key generation that begins in the place of another. It is cleared in two runs whose lengths are not known beforehand: a run of known length is written out place
-// by place wherever this is called, and the batch call then grows too large to be put into its caller.
-fn renew(mut g: KeyGen, our_id: u32, pub_keys: PubKeyMap) -> KeyGen
-    ensures { result ≡ fresh_held our_id pub_keys }
-{
-    let old = g.pub_keys;
-    let n = old.len();
-    g.our_id = our_id;
-    g.pub_keys = pub_keys;
-    let first = clear(g, 0, n);
-    clear(first, n, PubKeyMap::LIMIT)
 }
 
 // Step 7 where a map wins: the candidate map again restarts nothing; another one begins an era and a fresh key generation.
 fn map_wins(
     params: Params,
     counter: VoteCounter,
-    state: KeyGenState,
+    state: Option<KeyGenState>,
     era: u64,
     map: PubKeyMap,
 ) -> Decision
@@ -154,25 +98,26 @@ fn map_wins(
 {
     let change = ChangeState::in_progress(Change::node_change(map));
     if is_candidate(state, map) {
-        return decided(params, counter, state, false, change, false);
+        return Decision {
+            params,
+            vote_counter: counter,
+            key_gen_state: state,
+            restarted: false,
+            change,
+            part_due: false,
+            recipe: None,
+        };
     }
     let current = counter.pub_keys;
-    let part_due = network_info::is_member(map, counter.our_id);
-    let next = VoteCounter::new(counter.our_id, counter.secret_key, current, era);
-    let old = state.key_gen;
-    let begun = KeyGenState::new(renew(old, counter.our_id, map));
-    decided(params, next, begun, true, change, part_due)
-}
-
-// A schedule put into the parameters, all else as before.
-fn with_schedule(old: Params, schedule: EncryptionSchedule) -> Params
-    ensures { result ≡ with_schedule old schedule }
-{
-    let strategy = old.subset_handling_strategy;
-    Params {
-        max_future_epochs: old.max_future_epochs,
-        subset_handling_strategy: strategy,
-        encryption_schedule: schedule,
+    let begun = KeyGen::new(counter.our_id, map);
+    Decision {
+        params,
+        vote_counter: VoteCounter::new(counter.our_id, counter.secret_key, current, era),
+        key_gen_state: Some(KeyGenState::new(begun)),
+        restarted: true,
+        change,
+        part_due: network_info::is_member(map, counter.our_id),
+        recipe: None,
     }
 }
 
@@ -180,36 +125,51 @@ fn with_schedule(old: Params, schedule: EncryptionSchedule) -> Params
 fn schedule_wins(
     params: Params,
     counter: VoteCounter,
-    state: KeyGenState,
+    state: Option<KeyGenState>,
     era: u64,
     schedule: EncryptionSchedule,
 ) -> Decision
     ensures { (st : List SignedKeyGenMsgOf) (l : Found Stamp) → decided_of era st l result ≡ schedule_wins era (parts_of params counter state st l) schedule }
 {
     let map = counter.pub_keys;
-    let next = VoteCounter::new(counter.our_id, counter.secret_key, map, era);
-    let changed = with_schedule(params, schedule);
-    let change = ChangeState::complete(Change::schedule(schedule));
-    decided(changed, next, state, true, change, false)
+    Decision {
+        params: Params {
+            encryption_schedule: schedule,
+            ..params
+        },
+        vote_counter: VoteCounter::new(counter.our_id, counter.secret_key, map, era),
+        key_gen_state: state,
+        restarted: true,
+        change: ChangeState::complete(Change::schedule(schedule)),
+        part_due: false,
+        recipe: None,
+    }
 }
 
-// Step 7: a change has won.
-fn change_wins(
+// Steps 7 and 8: a change that has won is made; without one all stays as it is.
+fn elected(
     params: Params,
     counter: VoteCounter,
-    state: KeyGenState,
+    state: Option<KeyGenState>,
     era: u64,
-    change: Change,
+    e: Option<Change>,
 ) -> Decision
-    ensures { (st : List SignedKeyGenMsgOf) (l : Found Stamp) → decided_of era st l result ≡ elected_by base era (parts_of params counter state st l) (found (change_of change)) }
+    ensures { (st : List SignedKeyGenMsgOf) (l : Found Stamp) → decided_of era st l result ≡ elected_by base era (parts_of params counter state st l) (elected_of e) }
 {
-    let kind = change.kind;
-    let map = change.map;
-    match kind {
-        ChangeKind::NodeChange => map_wins(params, counter, state, era, map),
-        ChangeKind::EncryptionSchedule(schedule) => schedule_wins(
+    match e {
+        Some(Change::NodeChange(map)) => map_wins(params, counter, state, era, map),
+        Some(Change::EncryptionSchedule(schedule)) => schedule_wins(
             params, counter, state, era, schedule,
         ),
+        None => Decision {
+            params,
+            vote_counter: counter,
+            key_gen_state: state,
+            restarted: false,
+            change: ChangeState::none(),
+            part_due: false,
+            recipe: None,
+        },
     }
 }
 
@@ -217,17 +177,14 @@ fn change_wins(
 pub fn decide(
     params: Params,
     counter: VoteCounter,
-    state: KeyGenState,
+    state: Option<KeyGenState>,
     era: u64,
     e: Option<Change>,
 ) -> Decision
     ensures { (st : List SignedKeyGenMsgOf) (l : Found Stamp) → decided_of era st l result ≡ decide_by base era (parts_of params counter state st l) (elected_of e) }
 {
-    if state.is_ready() {
-        return complete(params, counter, state, era);
+    match state {
+        Some(running) if running.key_gen.is_ready() => complete(params, counter, running, era),
+        _ => elected(params, counter, state, era, e),
     }
-    let Some(change) = e else {
-        return decided(params, counter, state, false, ChangeState::none(), false);
-    };
-    change_wins(params, counter, state, era, change)
 }

@@ -1,6 +1,6 @@
 // Answers that are worked out and not only read: the number of faulty nodes, the winner of votes, and how far a key generation is.
-use crate::text::Failure;
-use crate::values::ok_change;
+use crate::text::{Failure, Hex};
+use crate::values::encoded;
 use bincode::Refusal;
 use key_gen::{KeyGen, Proposal};
 use pub_key_map::PubKeyMap;
@@ -11,10 +11,7 @@ const ROW: usize = PubKeyMap::LIMIT + 1;
 
 // Eight bytes of a number of nodes: how many of them may be faulty.
 pub(crate) fn faulty(b: &[u8], out: &mut String) -> Result<(), Failure> {
-    if b.len() != 8 {
-        return Err(Failure::BadLine);
-    }
-    let Ok((n, _)) = bincode::read_u64(b, 0) else {
+    let Ok((n, _)) = bincode::all_read(b, bincode::read_u64(b, 0)) else {
         return Err(Failure::BadLine);
     };
     writeln!(out, "ok {}", util::max_faulty(n as usize))?;
@@ -42,13 +39,14 @@ pub(crate) fn winner(b: &[u8], out: &mut String) -> Result<(), Failure> {
     let (map, at) = pub_key_map::read_map(b, 0)?;
     let counter = commit_votes(map, b, at)?;
     let committed = counter.committed;
-    match counter.compute_winner() {
-        Some(i) if i < committed.len() => ok_change(committed.votes[i].vote.change, out),
-        _ => {
-            writeln!(out, "no")?;
-            Ok(())
+    match counter.compute_winner().and_then(|i| committed.votes.at(i)) {
+        Some(winner) => {
+            let change = encoded(winner.vote.change, change::write_change);
+            writeln!(out, "ok {}", Hex(change.as_slice()))?;
         }
+        None => writeln!(out, "no")?,
     }
+    Ok(())
 }
 
 // The flag at a place; there is none past the end.
@@ -56,20 +54,19 @@ fn flag(b: &[u8], at: usize) -> bool {
     b.get(at) == Some(&1)
 }
 
-// The row of a node.
-fn proposal(row: &[u8]) -> Proposal {
-    let mut p = Proposal::empty();
-    p.recorded = flag(row, 0);
+// The row of a node; none where its part is not recorded.
+fn proposal(row: &[u8]) -> Option<Proposal> {
+    let mut p = Proposal::new(0);
     for j in 0..PubKeyMap::LIMIT {
         p.acks[j] = flag(row, j + 1);
     }
-    p
+    flag(row, 0).then_some(p)
 }
 
 fn key_gen_of(map: PubKeyMap, b: &[u8]) -> KeyGen {
     let mut key_gen = KeyGen::new(0, map);
-    for i in 0..PubKeyMap::LIMIT {
-        key_gen.proposals[i] = proposal(b.get(ROW * i..).unwrap_or(b""));
+    for (p, row) in key_gen.proposals.iter_mut().zip(b.chunks(ROW)) {
+        *p = proposal(row);
     }
     key_gen
 }

@@ -1,7 +1,10 @@
 // Answers one line.
 use crate::text::Failure;
+use crate::values::again;
 use crate::{counts, values};
 use hex::FromHexError;
+use honey_badger::{read_schedule, write_schedule};
+use key_gen_message::{read_signed, write_signed};
 use std::alloc::Global;
 
 // The greatest length of a line.
@@ -11,17 +14,22 @@ pub const LIMIT: usize = 140000;
 fn dispatch(kind: &str, b: &[u8], out: &mut String) -> Result<(), Failure> {
     match kind {
         "map" => values::map(b, out),
-        "schedule" => values::schedule(b, out),
-        "params" => values::parameters(b, out),
-        "change" => values::change(b, out),
-        "state" => values::state(b, out),
+        "schedule" => again(b, read_schedule, write_schedule, out),
+        "params" => again(b, params::read_params, params::write_params, out),
+        "change" => again(b, change::read_change, change::write_change, out),
+        "state" => again(b, change::read_state, change::write_state, out),
         "vote" => values::vote(b, out),
-        "signed-vote" => values::signed_vote(b, out),
-        "part" => values::part(b, out),
-        "ack" => values::ack(b, out),
-        "key-gen" => values::key_gen(b, out),
-        "signed-key-gen" => values::signed_key_gen(b, out),
-        "message" => values::message(b, out),
+        "signed-vote" => again(b, votes::read_signed_vote, votes::write_signed_vote, out),
+        "part" => again(b, sync_key_gen::read_part, sync_key_gen::write_part, out),
+        "ack" => again(b, sync_key_gen::read_ack, sync_key_gen::write_ack, out),
+        "key-gen" => again(
+            b,
+            key_gen_message::read_message,
+            key_gen_message::write_message,
+            out,
+        ),
+        "signed-key-gen" => again(b, read_signed, write_signed, out),
+        "message" => again(b, message::read_message, message::write_message, out),
         "plan" => values::plan(b, out),
         "batch" => values::batch(b, out),
         "user" => values::user(b, out),

@@ -56,9 +56,3 @@ impl fmt::Display for Hex<'_> {
 pub(crate) fn first(s: &[u8], n: usize) -> &[u8] {
     s.get(..n).unwrap_or(s)
 }
-
-// The line of the first n bytes of what was written.
-pub(crate) fn ok_line(out: &mut String, buf: &[u8], n: usize) -> Result<(), Failure> {
-    writeln!(out, "ok {}", Hex(first(buf, n)))?;
-    Ok(())
-}

@@ -1,7 +1,8 @@
 // Values read and written again: `ok` with the bytes, or the refusal's number. A map and a vote are shown in words too.
-use crate::text::{Failure, Hex, first, ok_line};
+use crate::text::{Failure, Hex, first};
+use array_list::ArrayList;
 use bincode::Refusal;
-use change::{Change, ChangeKind};
+use change::Change;
 use honey_badger::EncryptionSchedule;
 use pub_key_map::PubKeyMap;
 use std::fmt;
@@ -16,12 +17,11 @@ struct NodesText(PubKeyMap);
 
 impl fmt::Display for NodesText {
     fn fmt<W: fmt::Write>(&self, f: &mut fmt::Formatter<W>) -> fmt::Result {
-        let map = self.0;
-        let n = map.len();
-        if n == 0 {
+        let nodes = self.0.nodes.as_slice();
+        if nodes.is_empty() {
             return f.write_str("-");
         }
-        for (i, node) in map.nodes[..n].iter().enumerate() {
+        for (i, node) in nodes.iter().enumerate() {
             if 0 < i {
                 f.write_str(",")?;
             }
@@ -51,129 +51,62 @@ struct ChangeText(Change);
 
 impl fmt::Display for ChangeText {
     fn fmt<W: fmt::Write>(&self, f: &mut fmt::Formatter<W>) -> fmt::Result {
-        let change = self.0;
-        match change.kind {
-            ChangeKind::NodeChange => write!(f, "NodeChange {}", NodesText(change.map)),
-            ChangeKind::EncryptionSchedule(x) => {
-                write!(f, "EncryptionSchedule {}", ScheduleText(x))
-            }
+        match self.0 {
+            Change::NodeChange(map) => write!(f, "NodeChange {}", NodesText(map)),
+            Change::EncryptionSchedule(x) => write!(f, "EncryptionSchedule {}", ScheduleText(x)),
         }
     }
 }
 
+// A value as the writer of its kind encodes it.
+pub(crate) fn encoded<T, W: Fn(&mut [u8], usize, T) -> usize>(
+    value: T,
+    write: W,
+) -> ArrayList<u8, ROOM>
+    requires { W.IsAlwaysCallable write }
+{
+    let mut items = [0u8; ROOM];
+    let count = write(&mut items, 0, value);
+    ArrayList { count, items }
+}
+
+// The value of a kind that the whole input is, written again.
+pub(crate) fn again<
+    T: Copy,
+    R: Fn(&[u8], usize) -> Result<(T, usize), Refusal>,
+    W: Fn(&mut [u8], usize, T) -> usize,
+>(b: &[u8], read: R, write: W, out: &mut String) -> Result<(), Failure>
+    requires reads { R.IsAlwaysCallable read }
+    requires writes { W.IsAlwaysCallable write }
+{
+    let (value, _) = bincode::all_read(b, read(b, 0))?;
+    let bytes = encoded(value, write);
+    writeln!(out, "ok {}", Hex(bytes.as_slice()))?;
+    Ok(())
+}
+
 pub(crate) fn map(b: &[u8], out: &mut String) -> Result<(), Failure> {
-    let (value, _) = pub_key_map::read_whole_map(b)?;
-    let mut buf = [0u8; ROOM];
-    let n = pub_key_map::write_map(&mut buf, 0, value);
-    writeln!(out, "ok {} {}", Hex(first(&buf, n)), NodesText(value))?;
+    let (map, _) = pub_key_map::read_whole_map(b)?;
+    let bytes = encoded(map, pub_key_map::write_map);
+    writeln!(out, "ok {} {}", Hex(bytes.as_slice()), NodesText(map))?;
     Ok(())
-}
-
-pub(crate) fn schedule(b: &[u8], out: &mut String) -> Result<(), Failure> {
-    let (value, _) = honey_badger::read_whole_schedule(b)?;
-    let mut buf = [0u8; ROOM];
-    let n = honey_badger::write_schedule(&mut buf, 0, value);
-    ok_line(out, &buf, n)
-}
-
-pub(crate) fn parameters(b: &[u8], out: &mut String) -> Result<(), Failure> {
-    let (value, _) = params::read_whole_params(b)?;
-    let mut buf = [0u8; ROOM];
-    let n = params::write_params(&mut buf, 0, value);
-    ok_line(out, &buf, n)
-}
-
-// A change, written.
-pub(crate) fn ok_change(x: Change, out: &mut String) -> Result<(), Failure> {
-    let mut buf = [0u8; ROOM];
-    let n = change::write_change(&mut buf, 0, x);
-    ok_line(out, &buf, n)
-}
-
-pub(crate) fn change(b: &[u8], out: &mut String) -> Result<(), Failure> {
-    let (value, _) = change::read_whole_change(b)?;
-    ok_change(value, out)
-}
-
-// A value that ends at a place has to be the whole input: bytes left over are malformed.
-fn whole(b: &[u8], end: usize) -> Result<(), Refusal> {
-    if end < b.len() {
-        return Err(Refusal::Malformed);
-    }
-    Ok(())
-}
-
-pub(crate) fn state(b: &[u8], out: &mut String) -> Result<(), Failure> {
-    let (value, end) = change::read_state(b, 0)?;
-    whole(b, end)?;
-    let mut buf = [0u8; ROOM];
-    let n = change::write_state(&mut buf, 0, value);
-    ok_line(out, &buf, n)
 }
 
 pub(crate) fn vote(b: &[u8], out: &mut String) -> Result<(), Failure> {
-    let (value, end) = votes::read_vote(b, 0)?;
-    whole(b, end)?;
-    let mut buf = [0u8; ROOM];
-    let n = votes::write_vote(&mut buf, 0, value);
-    let Vote { change, era, num } = value;
-    let bytes = Hex(first(&buf, n));
+    let (vote, _) = bincode::all_read(b, votes::read_vote(b, 0))?;
+    let bytes = encoded(vote, votes::write_vote);
+    let Vote { change, era, num } = vote;
+    let bytes = Hex(bytes.as_slice());
     writeln!(out, "ok {bytes} era {era} num {num} {}", ChangeText(change))?;
     Ok(())
 }
 
-pub(crate) fn signed_vote(b: &[u8], out: &mut String) -> Result<(), Failure> {
-    let (value, end) = votes::read_signed_vote(b, 0)?;
-    whole(b, end)?;
-    let mut buf = [0u8; ROOM];
-    let n = votes::write_signed_vote(&mut buf, 0, value);
-    ok_line(out, &buf, n)
-}
-
-pub(crate) fn part(b: &[u8], out: &mut String) -> Result<(), Failure> {
-    let (value, end) = sync_key_gen::read_part(b, 0)?;
-    whole(b, end)?;
-    let mut buf = [0u8; ROOM];
-    let n = sync_key_gen::write_part(&mut buf, 0, value);
-    ok_line(out, &buf, n)
-}
-
-pub(crate) fn ack(b: &[u8], out: &mut String) -> Result<(), Failure> {
-    let (value, end) = sync_key_gen::read_ack(b, 0)?;
-    whole(b, end)?;
-    let mut buf = [0u8; ROOM];
-    let n = sync_key_gen::write_ack(&mut buf, 0, value);
-    ok_line(out, &buf, n)
-}
-
-pub(crate) fn key_gen(b: &[u8], out: &mut String) -> Result<(), Failure> {
-    let (value, end) = key_gen_message::read_message(b, 0)?;
-    whole(b, end)?;
-    let mut buf = [0u8; ROOM];
-    let n = key_gen_message::write_message(&mut buf, 0, value);
-    ok_line(out, &buf, n)
-}
-
-pub(crate) fn signed_key_gen(b: &[u8], out: &mut String) -> Result<(), Failure> {
-    let (value, end) = key_gen_message::read_signed(b, 0)?;
-    whole(b, end)?;
-    let mut buf = [0u8; ROOM];
-    let n = key_gen_message::write_signed(&mut buf, 0, value);
-    ok_line(out, &buf, n)
-}
-
-pub(crate) fn message(b: &[u8], out: &mut String) -> Result<(), Failure> {
-    let (value, _) = message::read_whole_message(b)?;
-    let mut buf = [0u8; ROOM];
-    let n = message::write_message(&mut buf, 0, value);
-    ok_line(out, &buf, n)
-}
-
 pub(crate) fn plan(b: &[u8], out: &mut String) -> Result<(), Failure> {
-    let (value, _) = join_plan::read_plan(b)?;
+    let (plan, _) = join_plan::read_plan(b)?;
     let mut buf = [0u8; ROOM];
-    let n = join_plan::write_plan(&mut buf, value)?;
-    ok_line(out, &buf, n)
+    let n = join_plan::write_plan(&mut buf, plan)?;
+    writeln!(out, "ok {}", Hex(first(&buf, n)))?;
+    Ok(())
 }
 
 pub(crate) fn batch(b: &[u8], out: &mut String) -> Result<(), Failure> {

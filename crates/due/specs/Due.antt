@@ -1,5 +1,6 @@
 -- 01: the due list, in order of arising, each item with its era.
-use Rattle.std.specs.Prelude.{List, take, replicate}
+use Rattle.std.specs.Prelude.{List, replicate}
+use Rattle.array_list.specs.ArrayList.{items_in}
 use Rattle.bincode.specs.Sizes.{base}
 use Rattle.due.specs.declared.DueKind.TheVariants.{Part}
 use Rattle.due.specs.declared.DueItem.{DueItem}
@@ -7,10 +8,10 @@ use Rattle.due.specs.declared.DueList.{DueList}
 
 -- the items of any value of the struct: those below the count, as far as the array reaches
 abbrev pub due_of : DueList → List DueItem
-due_of l = take l.count l.items
+due_of l = items_in l.items
 
 abbrev pub no_item : DueItem
 no_item = record { kind = Part; era = 0 }
 
 abbrev pub no_due : DueList
-no_due = record { count = 0; items = replicate base.due no_item }
+no_due = record { items = record { count = 0; items = replicate base.due no_item } }

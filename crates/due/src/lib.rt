@@ -5,6 +5,8 @@ ghost use Rattle.std.specs.Prelude.{◌≡◌, ◌∷◌, [], ◌++◌, ◌≤�
 ghost use Rattle.bincode.specs.Sizes.{base};
 ghost use Rattle.due.specs.Due.{due_of, no_item, no_due};
 
+use array_list::ArrayList;
+
 // A part of the own, or an ack for the part of the proposer with an index.
 #[derive(Clone, Copy)]
 pub enum DueKind {
@@ -29,11 +31,10 @@ impl DueItem {
     }
 }
 
-// In order of arising; places from `count` on do not count.
+// In order of arising.
 #[derive(Clone, Copy)]
 pub struct DueList {
-    pub count: usize,
-    pub items: [DueItem; DueList::LIMIT],
+    pub items: ArrayList<DueItem, { DueList::LIMIT }>,
 }
 
 impl DueList {
@@ -41,17 +42,18 @@ impl DueList {
 
     // The items of an array below a count.
     pub fn new(count: usize, items: [DueItem; DueList::LIMIT]) -> Self
-        ensures { result ≡ record { count = count; items = items } }
+        ensures { result ≡ record { items = record { count = count; items = items } } }
     {
-        DueList { count, items }
+        DueList {
+            items: ArrayList { count, items },
+        }
     }
 
     pub fn empty() -> Self
         ensures { result ≡ no_due }
     {
         DueList {
-            count: 0,
-            items: [DueItem::empty(); DueList::LIMIT],
+            items: ArrayList::empty(DueItem::empty()),
         }
     }
 
@@ -59,18 +61,14 @@ impl DueList {
     pub fn len(self) -> usize
         ensures { (result ≡ length (due_of self)) × (result ≤ base.due) }
     {
-        self.count.min(DueList::LIMIT)
+        self.items.len()
     }
 
     // One item more; a full list has no place for it.
     pub fn append(mut self, item: DueItem) -> Self
         ensures { due_of result ≡ take base.due (due_of self ++ (item ∷ [])) }
     {
-        let n = self.len();
-        if n < DueList::LIMIT {
-            self.items[n] = item;
-            self.count = n + 1;
-        }
+        self.items.push(item);
         self
     }
 }

@@ -3,24 +3,26 @@
 use borrow.Author.Tests.{eq-eqb, ne_eqb}
 use mathlib.Core.Bool.{Bool, true, false, cond}
 use mathlib.Core.List.{List}
-use mathlib.Core.Path.{◌≡◌, refl, sym, ap, ◌∙◌}
+use mathlib.Core.Path.{◌≡◌, sym, ap, ◌∙◌}
 use Prim.Native.Nat.{ℕ}
-use lib.Dec.{ltb}
-use lib.ListN.{length}
 use Rattle.std.specs.declared.result.Result.TheVariants.{Ok}
 use Rattle.bincode.specs.Answer.{answer}
 use Rattle.bincode.specs.Numbers.{read_num}
 use Rattle.bincode.specs.Read.{value, refuse, whole}
 use Rattle.bincode.specs.Sizes.{Sizes}
-use Rattle.bincode.proofs.ReadLaws.{answer_ok, same_value, bind_value, cond_value, whole_refused}
+use Rattle.bincode.proofs.ReadLaws.{answer_ok, whole_refused}
 use Rattle.lists.proofs.ListLaws.{cond_yes}
 use Rattle.pub_key_map.specs.declared.Node.{Node}
 use Rattle.network_info.specs.NetworkInfo.{is_member}
-use Rattle.key_gen_message.specs.KeyGenMessage.{KeyGenMessageOf, SignedKeyGenMsgOf, message_of, read_key_gen_message}
+use Rattle.key_gen_message.specs.KeyGenMessage.{SignedKeyGenMsgOf, message_of}
+use Rattle.votes.specs.declared.SignedVote.{SignedVote}
+use Rattle.key_gen_message.specs.declared.KeyGenMessage.{KeyGenMessage}
 use Rattle.message.specs.declared.Message.{Message}
-use Rattle.message.specs.Message.{MessageContent, key_gen, content_held, read_key_gen, read_message}
+use Rattle.message.specs.declared.Message.TheVariants.{KeyGen}
+use Rattle.message.specs.declared.Message.TheVariants as message
+use Rattle.message.specs.Message.{MessageContent, content_of, content_held, read_message}
 use Rattle.message_store.specs.MessageStore.{row12, pushed}
-use Rattle.dynamic_honey_badger.specs.Received.{HandledOf, quiet, refusal, handled_as, signed_by, stored_in, read_due_item, returned_key_gen, returned_read, returned}
+use Rattle.dynamic_honey_badger.specs.Received.{quiet, refusal, handled_as, signed_by, stored_in, read_due_item, returned_key_gen, returned_read, returned}
 use Rattle.dynamic_honey_badger.specs.State.{StateOf, era_of, nodes_in}
 use Rattle.dynamic_honey_badger.proofs.PartsLaws.{validator}
 use Rattle.dynamic_honey_badger.proofs.JudgedLaws.{full_refuses}
@@ -52,15 +54,6 @@ module _ (z : Sizes) (s : StateOf) (m : SignedKeyGenMsgOf) (era : ℕ) (own : er
       kept_full r = kept_stored ∙ ap (stored_in s s) (full_refuses z s.store m r)
 
 module _ (z : Sizes) (bytes : List ℕ) where
-  -- a key message's bytes hold a key message
-  key_gen_read : (at : ℕ) (x : MessageContent) (c : ℕ) → read_key_gen z bytes at ≡ value x c → (era : ℕ) × (m : KeyGenMessageOf) × (sig : ℕ) × (x ≡ key_gen era m sig)
-  unfolding read_key_gen
-  key_gen_read at x c e =
-      let u = bind_value (read_num 8 bytes at) _ e in
-      let v = bind_value (read_key_gen_message z bytes u.1) _ u.3 in
-      let w = bind_value (read_num 8 bytes v.1) _ v.3 in
-      (u.0, v.0, w.0, same_value (value x c) refl (sym w.3))
-
   -- where the tag cannot be read, a due item is refused by 2
   no_tag : read_num 4 bytes 0 ≡ refuse 2 → read_due_item z bytes 0 ≡ refuse 2
   unfolding read_due_item
@@ -84,23 +77,9 @@ module _ (z : Sizes) (bytes : List ℕ) where
       unfolding read_due_item read_message
       read_as_message = rw (e, eq-eqb tag 1 h)
 
-      -- and what follows the tag is read as a key message
-      read_as_key_gen : read_due_item z bytes 0 ≡ read_key_gen z bytes c
-      unfolding read_due_item
-      read_as_key_gen = rw (e, eq-eqb tag 1 h)
-
       pub due_as_message : whole (read_due_item z bytes) bytes ≡ whole (read_message z bytes) bytes
       unfolding whole
       due_as_message = rw read_as_message
-
-      -- so it holds a key message
-      pub due_key_gen : (x : MessageContent) (d : ℕ) → whole (read_due_item z bytes) bytes ≡ value x d → (era : ℕ) × (m : KeyGenMessageOf) × (sig : ℕ) × (x ≡ key_gen era m sig)
-      unfolding whole
-      due_key_gen x d r =
-          let u = bind_value (read_due_item z bytes 0) _ r in
-          let v = cond_value (value u.0 u.1) (ltb u.1 (length bytes)) 2 u.3 in
-          let k = key_gen_read c u.0 u.1 (sym read_as_key_gen ∙ u.2) in
-          (k.0, k.1, k.2, same_value (value x d) refl (sym v.1) ∙ k.3)
 
 -- a due item handed back as bytes
 module _ (z : Sizes) (s : StateOf) (bytes : List ℕ) where
@@ -114,20 +93,18 @@ module _ (z : Sizes) (s : StateOf) (bytes : List ℕ) where
   unfolding returned
   due_read x c e = rw e
 
-  -- a struct that holds the key message read is returned as the bytes are
-  pub due_held : (x : MessageContent) (d : ℕ) → whole (read_due_item z bytes) bytes ≡ value x d
-      → (era : ℕ) × (m : KeyGenMessageOf) × (sig : ℕ) × (x ≡ key_gen era m sig)
-      → (w : Message) → w ≡ content_held x
-      → returned_key_gen z s (signed_by w.era s.counter.our_id (message_of w.message) w.sig) ≡ returned z s bytes
-  due_held x d r k w h =
-      ap {B = HandledOf} (λ (y : Message). returned_key_gen z s (signed_by y.era s.counter.our_id (message_of y.message) y.sig)) (h ∙ ap content_held k.3)
-      ∙ ap {B = HandledOf} (λ (y : MessageContent). returned_read z s (value y d)) (held_content (key_gen k.0 k.1 k.2) ∙ sym k.3)
-      ∙ sym (due_read x d r)
+  -- by the answer that code gives: what was read behind the tag
+  module _ (tag c : ℕ) (e : read_num 4 bytes 0 ≡ value tag c) (one : tag ≡ 1) (m : Message) (d : ℕ) (r : answer content_held (whole (read_message z bytes) bytes) ≡ Ok (m, d)) where
+    due_returned : returned z s bytes ≡ returned_read z s (value (content_of m) d)
+    due_returned =
+        let x = answer_ok content_held (whole (read_message z bytes) bytes) m d r in
+        due_read x.0 d (due_as_message z bytes tag c e one ∙ x.1) ∙ ap (λ (y : MessageContent). returned_read z s (value y d)) (sym (ap content_of x.2 ∙ held_content x.0))
 
-  -- by the answer that code gives: a message that was read behind the tag is returned under the own id
-  pub due_returned : (tag c : ℕ) → read_num 4 bytes 0 ≡ value tag c → tag ≡ 1 → (m : Message) (d : ℕ) → answer content_held (whole (read_message z bytes) bytes) ≡ Ok (m, d)
-      → (id : ℕ) → s.counter.our_id ≡ id → returned z s bytes ≡ returned_key_gen z s (signed_by m.era id (message_of m.message) m.sig)
-  due_returned tag c e one m d r id ours =
-      let x = answer_ok content_held (whole (read_message z bytes) bytes) m d r in
-      let y = due_as_message z bytes tag c e one ∙ x.1 in
-      sym (due_held x.0 d y (due_key_gen z bytes tag c e one x.0 d y) m x.2) ∙ ap (λ (k : ℕ). returned_key_gen z s (signed_by m.era k (message_of m.message) m.sig)) ours
+    -- a key message is returned under the own id
+    pub due_key_gen : (era : ℕ) (k : KeyGenMessage) (sig : ℕ) → m ≡ KeyGen era k sig → (id : ℕ) → s.counter.our_id ≡ id → returned z s bytes ≡ returned_key_gen z s (signed_by era id (message_of k) sig)
+    due_key_gen era k sig q id ours =
+        due_returned ∙ ap (λ (w : Message). returned_read z s (value (content_of w) d)) q ∙ ap (λ (i : ℕ). returned_key_gen z s (signed_by era i (message_of k) sig)) ours
+
+    -- a vote is refused
+    pub due_vote : (v : SignedVote) → m ≡ message.SignedVote v → returned z s bytes ≡ handled_as s (refusal 2)
+    due_vote v q = due_returned ∙ ap (λ (w : Message). returned_read z s (value (content_of w) d)) q

@@ -11,6 +11,7 @@ ghost use Rattle.due_item.specs.Fate.{FatedFor};
 use bincode::Refusal;
 use dynamic_honey_badger::{DynamicHoneyBadger, Handled};
 use key_gen_message::SignedKeyGenMsg;
+use message::Message;
 use message_store::MessageStore;
 use pub_key_map::PubKeyMap;
 
@@ -32,19 +33,21 @@ fn fate(
         return Err(Refusal::Malformed);
     }
     let (read, _) = message::read_whole_message(message)?;
-    if read.era != era {
+    let Message::KeyGen(made_in, message, sig) = read else {
+        return Err(Refusal::Malformed); // a vote, which has another tag
+    };
+    if made_in != era {
         return Ok(None);
     }
     if !network_info::is_member(map, our_id) {
         return Ok(None);
     }
     if held < MessageStore::LIMIT {
-        let body = read.message;
         return Ok(Some(SignedKeyGenMsg {
-            era: read.era,
+            era: made_in,
             id: our_id,
-            message: body,
-            sig: read.sig,
+            message,
+            sig,
         }));
     }
     Err(Refusal::StoreFull)
@@ -58,7 +61,7 @@ pub fn handle_due_item(mut state: DynamicHoneyBadger, message: &[u8]) -> Handled
     let map = counter.pub_keys;
     let store = state.store;
     let mut outcome = Ok(None);
-    match fate(message, counter.era, map, counter.our_id, store.count) {
+    match fate(message, counter.era, map, counter.our_id, store.len()) {
         Ok(Some(m)) => {
             let store = state.store;
             let p = store.push(m);

@@ -1,22 +1,29 @@
 -- Laws of what a host asks between batches.
 -- Assumes nothing.
-use borrow.Author.Tests.{lt-ltb, le-ltb, eq-eqb, ne_eqb}
-use mathlib.Core.Bool.{Bool, true, false}
+use borrow.Author.Tests.{lt-ltb, le-ltb, ltb-true, ltb-false, eq-eqb, ne_eqb, eqb-true, eqb-false}
+use mathlib.Core.Bool.{Bool, true, false, ◌||◌}
 use mathlib.Core.List.{List, [], ◌∷◌}
-use mathlib.Core.Path.{◌≡◌, refl, ap}
-use Prim.Native.Nat.{ℕ, zero, suc, ◌+◌, ◌≤◌, ◌<◌}
+use mathlib.Core.Path.{◌≡◌, refl, sym, ap, ◌∙◌}
+use Prim.Native.Nat.{ℕ, zero, suc, ◌+◌, ◌^◌, ◌≤◌, ◌<◌}
 use native.Mathlib.Numerals.{add-one}
 use native.Mathlib.Omega.{arith}
-use lib.Dec.{ltb}
+use lib.Dec.{ltb, eqb}
 use lib.ListN.{length, drop}
-use Rattle.lists.specs.Lists.{found, nothing, at_place}
+use Rattle.std.specs.Bool.{then_some}
+use Rattle.std.specs.List.{list_any, range_with_len}
+use Rattle.std.specs.Option.{MatchOption, SomeIff, ok_or}
+use Rattle.std.specs.declared.option.Option.{Option}
+use Rattle.std.specs.declared.option.Option.TheVariants.{None, Some}
+use Rattle.std.specs.declared.result.Result.TheVariants.{Err}
+use Rattle.bincode.specs.declared.Refusal.TheVariants.{LastEpoch}
+use Rattle.lists.specs.Lists.{Found, found, nothing, at_place}
 use Rattle.lists.proofs.ListLaws.{rest_none}
 use Rattle.lists.proofs.FilterLaws.{filter_length}
 use Rattle.util.specs.MaxFaulty.{max_faulty}
 use Rattle.votes.specs.Votes.{SignedVoteOf}
 use Rattle.vote_counter.specs.VoteCounter.{CounterOf, newer, pending_votes}
 use Rattle.key_gen_message.specs.KeyGenMessage.{SignedKeyGenMsgOf}
-use Rattle.dynamic_honey_badger.specs.Asked.{some_by, some_stored, should_propose}
+use Rattle.dynamic_honey_badger.specs.Asked.{row5, epoch_in, said_next, some_by, some_stored, should_propose}
 use Rattle.dynamic_honey_badger.specs.State.{StateOf, nodes_in}
 
 -- no more votes are handed out than are pending
@@ -37,6 +44,13 @@ none_there [] i e = rest_none [] i (omega arith)
 none_there (x ∷ vs) zero e = let z : ◌≡◌ {A = ℕ} 0 1 = cc in absurd (let y : ⊥ = omega arith in y)
 none_there (x ∷ vs) (suc i) e = none_there vs i e
 
+-- no vote at a place: none behind it
+past : (vs : List SignedVoteOf) (i : ℕ) → at_place i vs ≡ nothing → length vs ≤ i
+unfolding at_place
+past [] i e = omega arith
+past (x ∷ vs) zero e = let z : ◌≡◌ {A = ℕ} 0 1 = cc in absurd (let y : ⊥ = omega arith in y)
+past (x ∷ vs) (suc i) e = omega (arith, past vs i e)
+
 module _ (id : ℕ) (vs : List SignedVoteOf) (i : ℕ) where
   module _ (v : SignedVoteOf) (e : at_place i vs ≡ found v) where
     pub some_hit : v.voter ≡ id → some_by id (drop i vs) ≡ true
@@ -54,6 +68,46 @@ module _ (id : ℕ) (vs : List SignedVoteOf) (i : ℕ) where
   pub some_past : length vs ≤ i → some_by id (drop i vs) ≡ false
   unfolding some_by
   some_past l = rw (rest_none vs i l)
+
+-- whether a vote, if there is one, is of an id
+abbrev pub by_one : ℕ → Found SignedVoteOf → Bool
+by_one id (found v) = eqb v.voter id
+by_one id nothing = false
+
+-- a test at each place is one of the votes
+module _ (id : ℕ) (vs : List SignedVoteOf) where
+  abbrev one_at : ℕ → Bool
+  one_at k = by_one id (at_place k vs)
+
+  module _ (i : ℕ) (rest : Bool) (e : rest ≡ some_by id (drop (i + 1) vs)) where
+    held : (v : SignedVoteOf) → at_place i vs ≡ found v → (b : Bool) → eqb v.voter id ≡ b → (b || rest) ≡ some_by id (drop i vs)
+    held v h true t = sym (some_hit id vs i v h (eqb-true v.voter id t))
+    held v h false t = e ∙ sym (some_miss id vs i v h (eqb-false v.voter id t))
+
+    turn : (x : Found SignedVoteOf) → at_place i vs ≡ x → (by_one id x || rest) ≡ some_by id (drop i vs)
+    turn (found v) h = held v h (eqb v.voter id) refl
+    turn nothing h = e ∙ some_past id vs (i + 1) (omega (arith, past vs i h)) ∙ sym (some_none id vs i h)
+
+  pub own_in : (i n : ℕ) → length vs ≤ i + n → list_any one_at (range_with_len i n) ≡ some_by id (drop i vs)
+  own_in i zero h = sym (some_past id vs i (omega (arith, h)))
+  own_in i (suc n) h = turn i (list_any one_at (range_with_len (i + 1) n)) (own_in (i + 1) n (omega (arith, h))) (at_place i vs) refl
+
+-- the epoch is the sum, where it is no number too many
+module _ (era inner : ℕ) (Q : ℕ → Bool → Type 0) (told : (x : ℕ) (b : Bool) → Q x b → b ≡ ltb x 18446744073709551615) where
+  fits : (b : Bool) → b ≡ ltb (era + inner) 18446744073709551615 → said_next (ok_or (then_some b (era + inner)) LastEpoch) ≡ epoch_in era inner
+  unfolding row5
+  fits true e = rw (le-ltb 18446744073709551614 (era + inner) (omega (arith, ltb-true (era + inner) 18446744073709551615 (sym e))))
+  fits false e = rw (lt-ltb 18446744073709551614 (era + inner) (omega (arith, ltb-false (era + inner) 18446744073709551615 (sym e))))
+
+  over : (era + inner < 2 ^ 64 → ⊥) → said_next (Err LastEpoch) ≡ epoch_in era inner
+  unfolding row5
+  over h = rw (lt-ltb 18446744073709551614 (era + inner) (omega (arith, h)))
+
+  pub epoch_filtered : (o f : Option ℕ) → SomeIff o (era + inner < 2 ^ 64) (era + inner)
+      → MatchOption o (f ≡ None) (λ x. (b : Bool) × Q x b × (f ≡ then_some b x)) → said_next (ok_or f LastEpoch) ≡ epoch_in era inner
+  epoch_filtered None f h e = ap (λ (y : Option ℕ). said_next (ok_or y LastEpoch)) e ∙ over h
+  epoch_filtered (Some x) f h (b, q, e) =
+      ap (λ (y : Option ℕ). said_next (ok_or y LastEpoch)) (e ∙ ap (then_some b) h.1) ∙ fits b (told x b q ∙ ap (λ (y : ℕ). ltb y 18446744073709551615) h.1)
 
 -- some message is stored where the store's length is not 0
 pub some_length : (ms : List SignedKeyGenMsgOf) → ltb 0 (length ms) ≡ some_stored ms

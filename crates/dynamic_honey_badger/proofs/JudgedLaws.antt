@@ -1,6 +1,6 @@
 -- Laws of what is judged of a message on small parts of the state, and of what is then done.
 -- Assumes nothing.
-use borrow.Author.Tests.{leb-true, leb-false, le-leb, lt-leb}
+use borrow.Author.Tests.{le-leb, lt-leb}
 use mathlib.Core.Bool.{Bool, true, false}
 use mathlib.Core.List.{List, [], ◌∷◌, ◌++◌}
 use mathlib.Core.Path.{◌≡◌, refl, sym, ap, ◌∙◌}
@@ -9,9 +9,8 @@ use Prim.Native.Nat.{ℕ, ◌+◌, ◌≤◌, ◌<◌}
 use lib.Dec.{leb}
 use Rattle.std.specs.declared.result.Result.{Result}
 use Rattle.std.specs.declared.result.Result.TheVariants.{Ok, Err}
-use lib.ListN.{length, length-map}
+use lib.ListN.{length}
 use Rattle.lists.specs.Lists.{Found, found, nothing}
-use Rattle.lists.proofs.ListLaws.{length_live}
 use Rattle.bincode.specs.Outcome.{done, refused}
 use Rattle.bincode.specs.Rows.{row_number}
 use Rattle.bincode.specs.Sizes.{Sizes, base}
@@ -24,22 +23,18 @@ use Rattle.vote_counter.specs.declared.VoteOutcome.TheVariants as added
 use Rattle.vote_counter.specs.Answers.{said_outcome}
 use Rattle.key_gen.specs.KeyGen.{node_count}
 use Rattle.key_gen_state.specs.KeyGenState.{KeyGenStateOf, CountedOf, count_messages}
-use Rattle.key_gen_message.specs.KeyGenMessage.{SignedKeyGenMsgOf, signed_of}
+use Rattle.key_gen_message.specs.KeyGenMessage.{SignedKeyGenMsgOf}
 use Rattle.message_store.specs.declared.MessageStore.{MessageStore}
-use Rattle.message_store.specs.MessageStore.{row12, pushed, held, store_of, pushed_of}
-use Rattle.message_store.proofs.StoreLaws.{row12_not, row12_holds}
+use Rattle.message_store.specs.MessageStore.{row12, pushed, store_of, pushed_of}
 use Rattle.dynamic_honey_badger.specs.Received.{HandledOf, fault, refusal, handled_as, vote_effect, stored_in, received_key_gen, said_handling}
 use Rattle.dynamic_honey_badger.specs.Parts.{added_as, PartsOf}
 use Rattle.dynamic_honey_badger.specs.State.{StateOf, nodes_in, with_key_gen, candidate_nodes, valid_under, valid_signature}
 use Rattle.dynamic_honey_badger.proofs.ReceivedLaws.{key_invalid, key_valid, key_unexpected, key_many, key_stored}
 
--- by the count of a store alone it is told whether the store is full
-pub full_by_count : (x : MessageStore) → length x.messages ≡ base.store → row12 base (store_of x) ≡ leb base.store x.count
-full_by_count x l = by (leb base.store x.count) refl
-  where
-    by : (b : Bool) → leb base.store x.count ≡ b → row12 base (store_of x) ≡ leb base.store x.count
-    by true e = row12_holds base (store_of x) (omega (arith, length-map (held x) signed_of, (length_live x.messages x.count base.store l).1 (leb-true base.store x.count e))) ∙ sym e
-    by false e = row12_not base (store_of x) (omega (arith, leb-false base.store x.count e, length-map (held x) signed_of, (length_live x.messages x.count base.store l).0 (omega (arith, leb-false base.store x.count e)))) ∙ sym e
+-- by how many a store holds it is told whether the store is full
+pub full_by_count : (x : MessageStore) (n : ℕ) → n ≡ length (store_of x) → row12 base (store_of x) ≡ leb base.store n
+unfolding row12
+full_by_count x n e = ap (leb base.store) (sym e)
 
 refused_not_done : (n : ℕ) (ms : List SignedKeyGenMsgOf) → refused n ≡ done ms → ⊥
 refused_not_done n ms e = let w : ◌≡◌ {A = ℕ} 0 1 = cc in omega arith

@@ -4,6 +4,7 @@ use mathlib.Core.Bool.{Bool, true, true≢false}
 use mathlib.Core.Path.{◌≡◌, refl, sym, ap, ◌∙◌}
 use mathlib.Core.List.{List}
 use Prim.Native.Nat.{ℕ}
+use Rattle.std.specs.declared.option.Option.{Option}
 use Rattle.std.specs.declared.result.Result.{Result}
 use Rattle.std.specs.declared.result.Result.TheVariants.{Ok, Err}
 use Rattle.lists.specs.Lists.{Found, found}
@@ -20,7 +21,6 @@ use Rattle.vote_counter.specs.declared.VoteCounter.{VoteCounter}
 use Rattle.vote_counter.specs.Answers.{signed_answer, SignRefusedKeeps}
 use Rattle.vote_counter.specs.VoteCounter.{CounterOf, sign_vote_for, counter_of}
 use Rattle.dynamic_honey_badger.specs.declared.DynamicHoneyBadger.{DynamicHoneyBadger}
-use Rattle.dynamic_honey_badger.specs.declared.CastVote.{CastVote}
 use Rattle.dynamic_honey_badger.specs.OwnVotes.{VotedOf, voted_as, signed_in, said_vote, NotCastKeeps, vote_for}
 use Rattle.dynamic_honey_badger.specs.Parts.{voted_for, signed_as, UncastKeeps}
 use Rattle.dynamic_honey_badger.specs.State.{StateOf, nodes_in, with_counter, is_validator}
@@ -39,27 +39,7 @@ module _ (z : Sizes) (s : StateOf) where
   pub wanted_cast : (c : ChangeOf) → is_validator s ≡ true → voted_for z s (done (found c)) ≡ vote_for z s c
   wanted_cast c v = sym (vote_signed z s c (sign_vote_for z s.counter c) v refl)
 
--- a vote on the counter alone: what is signed is cast
-module _ (z : Sizes) (c : VoteCounter) (x : ChangeOf) where
-  pub cast_signed : (k : VoteCounter) (o : Result SignedVote Refusal)
-      → signed_answer (record { counter = k; outcome = o }) ≡ sign_vote_for z (counter_of c) x
-      → SignRefusedKeeps (record { counter = k; outcome = o }) c
-      → (s : StateOf) → s.counter ≡ counter_of c → voted_as (with_counter s (counter_of k)) (said_vote (signed_as o)) ≡ voted_for z s (done (found x))
-  cast_signed k (Ok v) f h s e = ap (signed_in s) (f ∙ ap (λ (q : CounterOf). sign_vote_for z q x) (sym e))
-  cast_signed k (Err n) f h s e =
-      ap {B = VotedOf} (λ (q : CounterOf). voted_as (with_counter s q) (refused (row_number n))) (ap counter_of (h n refl) ∙ sym e)
-      ∙ ap (signed_in s) (f ∙ ap (λ (q : CounterOf). sign_vote_for z q x) (sym e))
-
--- where it is not, the counter is as it should be
-pub signed_kept : (c k : VoteCounter) (o : Result SignedVote Refusal) → SignRefusedKeeps (record { counter = k; outcome = o }) c
-    → UncastKeeps (record { counter = k; outcome = signed_as o }) c
-signed_kept c k (Ok v) h e = absurd (true≢false e)
-signed_kept c k (Err n) h e = h n refl
-
--- what is not to be cast leaves the counter
-pub uncast_same : (c : VoteCounter) (a : Outcome (Found SignedVoteOf)) (s : StateOf) → s.counter ≡ counter_of c → voted_as (with_counter s (counter_of c)) a ≡ voted_as s a
-uncast_same c a s e = ap {B = VotedOf} (λ (q : CounterOf). voted_as (with_counter s q) a) (sym e)
-
 -- a counter that was put back as it was leaves the very state
-pub vote_kept : (d : DynamicHoneyBadger) (r : CastVote) → UncastKeeps r d.vote_counter → NotCastKeeps (record { state = held_counter d r.counter; outcome = r.outcome }) d
-vote_kept d r h e = ap (held_counter d) (h e)
+pub vote_kept : (d : DynamicHoneyBadger) (c : VoteCounter) (o : Result (Option SignedVote) Refusal) → UncastKeeps o c d.vote_counter
+    → NotCastKeeps (record { state = held_counter d c; outcome = o }) d
+vote_kept d c o h e = ap (held_counter d) (h e)

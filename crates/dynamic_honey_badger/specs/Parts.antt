@@ -19,17 +19,14 @@ use Rattle.vote_counter.specs.declared.VoteOutcome.{VoteOutcome}
 use Rattle.vote_counter.specs.declared.VoteOutcome.TheVariants as added
 use Rattle.vote_counter.specs.VoteCounter.{sign_vote_for, add_pending, counter_of}
 use Rattle.key_gen_state.specs.KeyGenState as running
-use Rattle.key_gen_message.specs.KeyGenMessage.{SignedKeyGenMsgOf, message_of, signed_of as key_signed}
-use Rattle.message.specs.declared.Message.{Message}
+use Rattle.key_gen_message.specs.KeyGenMessage.{SignedKeyGenMsgOf, signed_of as key_signed}
 use Rattle.message.specs.Message.{MessageContent}
 use Rattle.message_store.specs.MessageStore.{row12, pushed}
-use Rattle.dynamic_honey_badger.specs.declared.CastVote.{CastVote}
 use Rattle.dynamic_honey_badger.specs.declared.Task.{Task}
 use Rattle.dynamic_honey_badger.specs.declared.Task.TheVariants as task
-use Rattle.dynamic_honey_badger.specs.declared.Judged.{Judged}
 use Rattle.dynamic_honey_badger.specs.State.{StateOf, era_of, nodes_in, with_counter, with_key_gen}
 use Rattle.dynamic_honey_badger.specs.OwnVotes.{VotedOf, voted_as, signed_in, said_vote, was_cast}
-use Rattle.dynamic_honey_badger.specs.Received.{HandledOf, fault, received_key_gen, received_content, received, handled_as, voted_in, signed_by, stored_in, said_handling}
+use Rattle.dynamic_honey_badger.specs.Received.{HandledOf, fault, received_key_gen, received_content, received, handled_as, voted_in, stored_in, said_handling}
 
 -- what an own vote is to be for: a change or nothing; or a refusal
 abbrev pub wanted_view : Option Change → Found ChangeOf
@@ -53,14 +50,13 @@ abbrev pub signed_as : Result SignedVote Refusal → Result (Option SignedVote) 
 signed_as (Ok v) = Ok (Some v)
 signed_as (Err r) = Err r
 
--- a vote cast on the counter alone, for a state with this counter
-abbrev pub CastFor : Sizes → VoteCounter → Result (Option Change) Refusal → CastVote → Type 0
-CastFor z c w r =
-    (s : StateOf) → s.counter ≡ counter_of c → voted_as (with_counter s (counter_of r.counter)) (said_vote r.outcome) ≡ voted_for z s (wanted_of w)
+-- a vote cast on the counter alone, for a state with this counter: the counter before and after, and the answer
+abbrev pub CastFor : Sizes → VoteCounter → Result (Option Change) Refusal → VoteCounter → Result (Option SignedVote) Refusal → Type 0
+CastFor z c w k o = (s : StateOf) → s.counter ≡ counter_of c → voted_as (with_counter s (counter_of k)) (said_vote o) ≡ voted_for z s (wanted_of w)
 
 -- where none was cast stands the very counter that was given
-abbrev pub UncastKeeps : CastVote → VoteCounter → Type 0
-UncastKeeps r c = was_cast r.outcome ≡ false → r.counter ≡ c
+abbrev pub UncastKeeps : Result (Option SignedVote) Refusal → VoteCounter → VoteCounter → Type 0
+UncastKeeps o k c = was_cast o ≡ false → k ≡ c
 
 -- what adding a received vote says of its message
 abbrev pub added_as : VoteOutcome → Result (Option FaultKind) Refusal
@@ -72,30 +68,22 @@ added_as (added.Faulty k) = Ok (Some k)
 abbrev pub PartsOf : Sizes → StateOf → List Node → Found running.KeyGenStateOf → ℕ → Type 0
 PartsOf z s ns g held = (nodes_in s ≡ ns) × (s.key_gen ≡ g) × (row12 z s.store ≡ leb z.store held)
 
--- the key message that a sender's message holds
-abbrev pub key_message : ℕ → Message → SignedKeyGenMsgOf
-key_message sender m = signed_by m.era sender (message_of m.message) m.sig
-
 -- what each task says of what a message does; only where nothing changes may it be refused
-abbrev pub JudgedAs : Sizes → StateOf → HandledOf → Task → Result (Option FaultKind) Refusal → Found running.KeyGenStateOf → Type 0
-JudgedAs z s h task.Nothing o g = h ≡ handled_as s (said_handling o)
-JudgedAs z s h (task.Vote v) o g = h ≡ voted_in s (add_pending z s.counter (signed_of v))
-JudgedAs z s h task.Count o g =
-    (o ≡ Ok (Some TooManyKeyGenMessages)) × (h ≡ handled_as (with_key_gen s g) (fault TooManyKeyGenMessages))
-JudgedAs z s h (task.Store m) o g =
-    (o ≡ Ok None) × (row12 z s.store ≡ false) × (h ≡ stored_in s (with_key_gen s g) (pushed z s.store (key_signed m)))
-
-abbrev pub Judges : Sizes → StateOf → HandledOf → Judged → Type 0
-Judges z s h j = JudgedAs z s h j.task j.outcome (running.state_of j.counted)
+abbrev pub JudgedAs : Sizes → StateOf → HandledOf → Task → Type 0
+JudgedAs z s h (task.Answer o) = h ≡ handled_as s (said_handling o)
+JudgedAs z s h (task.Vote v) = h ≡ voted_in s (add_pending z s.counter (signed_of v))
+JudgedAs z s h (task.Count g) = h ≡ handled_as (with_key_gen s (found (running.running_of g))) (fault TooManyKeyGenMessages)
+JudgedAs z s h (task.Store g m) =
+    (row12 z s.store ≡ false) × (h ≡ stored_in s (with_key_gen s (found (running.running_of g))) (pushed z s.store (key_signed m)))
 
 -- what is judged of a key message, for a state with these parts
-abbrev pub JudgedKey : Sizes → List Node → Found running.KeyGenStateOf → ℕ → ℕ → Message → Judged → Type 0
-JudgedKey z ns g held sender m j = (s : StateOf) → PartsOf z s ns g held → Judges z s (received_key_gen z s (key_message sender m)) j
+abbrev pub JudgedKey : Sizes → List Node → Found running.KeyGenStateOf → ℕ → SignedKeyGenMsgOf → Task → Type 0
+JudgedKey z ns g held m t = (s : StateOf) → PartsOf z s ns g held → JudgedAs z s (received_key_gen z s m) t
 
 -- what is judged of a message, for a state with these parts and era
-abbrev pub JudgedContent : Sizes → ℕ → List Node → Found running.KeyGenStateOf → ℕ → ℕ → MessageContent → Judged → Type 0
-JudgedContent z era ns g held sender m j = (s : StateOf) → era_of s ≡ era → PartsOf z s ns g held → Judges z s (received_content z s sender m) j
+abbrev pub JudgedContent : Sizes → ℕ → List Node → Found running.KeyGenStateOf → ℕ → ℕ → MessageContent → Task → Type 0
+JudgedContent z era ns g held sender m t = (s : StateOf) → era_of s ≡ era → PartsOf z s ns g held → JudgedAs z s (received_content z s sender m) t
 
 -- the same of a message as bytes
-abbrev pub JudgedRead : Sizes → ℕ → List Node → Found running.KeyGenStateOf → ℕ → ℕ → List ℕ → Judged → Type 0
-JudgedRead z era ns g held sender bytes j = (s : StateOf) → era_of s ≡ era → PartsOf z s ns g held → Judges z s (received z s sender bytes) j
+abbrev pub JudgedRead : Sizes → ℕ → List Node → Found running.KeyGenStateOf → ℕ → ℕ → List ℕ → Task → Type 0
+JudgedRead z era ns g held sender bytes t = (s : StateOf) → era_of s ≡ era → PartsOf z s ns g held → JudgedAs z s (received z s sender bytes) t

@@ -1,5 +1,5 @@
 -- The state of a node: what it holds, how it starts, and what a new era does to it.
-use Rattle.std.specs.Prelude.{ℕ, ◌≡◌, List, [], ◌∷◌, length, Bool, true, false, cond, ◌||◌, None}
+use Rattle.std.specs.Prelude.{ℕ, ◌≡◌, List, [], ◌∷◌, length, Bool, true, false, cond, ◌||◌, Some, None}
 use Rattle.std.specs.declared.option.Option.{Option}
 use Rattle.std.specs.declared.result.Result.{Result}
 use Rattle.lists.specs.Lists.{Found, found, nothing, option_as_found}
@@ -11,6 +11,9 @@ use Rattle.pub_key_map.specs.declared.Node.{Node}
 use Rattle.pub_key_map.specs.declared.PubKeyMap.{PubKeyMap}
 use Rattle.network_info.specs.NetworkInfo.{is_member, key_of}
 use Rattle.params.specs.declared.Params.{Params}
+use Rattle.change.specs.declared.Change.TheVariants.{NodeChange, EncryptionSchedule}
+use Rattle.change.specs.declared.ChangeState.{ChangeState}
+use Rattle.change.specs.declared.ChangeState.TheVariants as progress
 use Rattle.change.specs.Change.{node_change, encryption_schedule, ChangeStateOf, none, in_progress, complete}
 use Rattle.vote_counter.specs.VoteCounter.{CounterOf, new_counter, counter_of, new_held, is_key}
 use Rattle.key_gen_state.specs.KeyGenState as running
@@ -185,10 +188,17 @@ joined_of r = outcome_as_said join_answer_of r
 
 -- the struct of a state that is opened
 abbrev pub opened_held : ℕ → ℕ → ℕ → PubKeyMap → Params → DynamicHoneyBadger
-opened_held id key era m p = record { params = p; vote_counter = new_held id key m era; key_gen_state = running.no_key_gen; store = no_store; last = None }
+opened_held id key era m p = record { params = p; vote_counter = new_held id key m era; key_gen_state = None; store = no_store; last = None }
 
 -- a joining with lent lists of due items: what it answers, and what the lists hold at the end; a refused one writes nothing
 abbrev pub JoinedLent : Sizes → ℕ → ℕ → List ℕ → Result JoinStarted Refusal → List ℕ → List ℕ → List ℕ → List ℕ → List ℕ → List ℕ → Type 0
 JoinedLent z id key plan r kinds kinds' indices indices' eras eras' =
     (joined_of r ≡ join_answer (joined z (due_places kinds indices eras) id key plan))
     × DueIn (join_due (joined z (due_places kinds indices eras) id key plan)) kinds kinds' indices indices' eras eras'
+
+-- the map that a plan has in progress
+abbrev pub map_in_progress : ChangeState → Option PubKeyMap
+map_in_progress (progress.InProgress (NodeChange m)) = Some m
+map_in_progress (progress.InProgress (EncryptionSchedule x)) = None
+map_in_progress progress.None = None
+map_in_progress (progress.Complete c) = None

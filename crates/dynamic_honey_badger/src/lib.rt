@@ -1,8 +1,8 @@
 // dynamic_honey_badger.rs: the state of a node, how it starts, own votes, received messages, and what a host asks between batches.
 #![tactic(auto)]
 
-ghost use Rattle.std.specs.Prelude.{◌≡◌, cond, length};
-ghost use Rattle.lists.specs.Lists.{found, nothing, at_place, option_as_found};
+ghost use Rattle.std.specs.Prelude.{◌≡◌};
+ghost use Rattle.lists.specs.Lists.{at_place, option_as_found};
 ghost use Rattle.bincode.specs.Sizes.{base};
 ghost use Rattle.pub_key_map.specs.PubKeyMap.{nodes_of};
 ghost use Rattle.change.specs.Change.{state_of as progress_of};
@@ -14,22 +14,22 @@ ghost use Rattle.key_gen_message.specs.KeyGenMessage as key_gen;
 ghost use Rattle.key_gen_state.specs.KeyGenState as running;
 ghost use Rattle.message.specs.Message.{content_of};
 ghost use Rattle.filled.specs.Numbers.{DueIn};
-ghost use Rattle.dynamic_honey_badger.specs.State.{state_of, in_progress_map, is_validator, candidate_nodes, valid_under, part_due, opened_held};
-ghost use Rattle.dynamic_honey_badger.specs.State.{started, started_of, joined_by, numbered, join_answer_of, JoinedLent};
+ghost use Rattle.dynamic_honey_badger.specs.State.{state_of, is_validator, candidate_nodes, valid_under, opened_held};
+ghost use Rattle.dynamic_honey_badger.specs.State.{started, started_of, map_in_progress, joined_by, numbered, join_answer_of, JoinedLent};
 ghost use Rattle.dynamic_honey_badger.specs.OwnVotes.{voted_of, NotCastKeeps, vote_for_bytes, vote_to_add, vote_to_remove};
 ghost use Rattle.dynamic_honey_badger.specs.Received.{handled_of, MessageRefusedKeeps, received, message_era};
-ghost use Rattle.dynamic_honey_badger.specs.Parts.{WantedFor, signed_as, CastFor, UncastKeeps, added_as, key_message, JudgedKey, JudgedContent, JudgedRead};
+ghost use Rattle.dynamic_honey_badger.specs.Parts.{WantedFor, CastFor, UncastKeeps, added_as, JudgedKey, JudgedContent, JudgedRead};
 ghost use Rattle.dynamic_honey_badger.specs.Asked.{next_epoch, epoch_in, said_next, some_by, should_propose, last_report, said_last, board_at};
 
 use bincode::Refusal;
 use board::Standing;
-use change::{Change, ChangeKind, ChangeState, Progress};
+use change::{Change, ChangeState};
 use due::{DueItem, DueKind};
 use fault_log::FaultKind;
 use key_gen::KeyGen;
 use key_gen_message::SignedKeyGenMsg;
 use key_gen_state::KeyGenState;
-use message::{Message, MessageKind};
+use message::Message;
 use message_store::MessageStore;
 use params::Params;
 use pub_key_map::{Node, PubKeyMap};
@@ -48,7 +48,7 @@ pub struct ReportStamp {
 pub struct DynamicHoneyBadger {
     pub params: Params,
     pub vote_counter: VoteCounter,
-    pub key_gen_state: KeyGenState,
+    pub key_gen_state: Option<KeyGenState>,
     pub store: MessageStore,
     pub last: Option<ReportStamp>,
 }
@@ -74,120 +74,64 @@ pub struct Handled {
     pub outcome: Result<Option<FaultKind>, Refusal>,
 }
 
-// The vote counter after an own vote, and the vote. Where none was cast the counter is the one given.
+// What a message is judged by: small parts of the state, since the whole is large.
 #[derive(Clone, Copy)]
-struct CastVote {
-    counter: VoteCounter,
-    outcome: Result<Option<SignedVote>, Refusal>,
+struct Known {
+    era: u64,
+    pub_keys: PubKeyMap,
+    key_gen_state: Option<KeyGenState>,
+    held: usize,
 }
 
-// What a message changes: nothing, the pending votes, its sender's count, or that and the store.
+// What a message is to do: give an answer alone, join the pending votes, raise its sender's count, or be stored beside that.
 #[derive(Clone, Copy)]
 enum Task {
-    Nothing,
+    Answer(Result<Option<FaultKind>, Refusal>),
     Vote(SignedVote),
-    Count,
-    Store(SignedKeyGenMsg),
-}
-
-// What a message is to do, the outcome of all tasks but a vote, and key generation with the sender counted.
-#[derive(Clone, Copy)]
-struct Judged {
-    task: Task,
-    outcome: Result<Option<FaultKind>, Refusal>,
-    counted: KeyGenState,
+    Count(KeyGenState),
+    Store(KeyGenState, SignedKeyGenMsg),
 }
 
 // Whether a signature is under the id's current or candidate key.
-pub fn verify_signature(pub_keys: PubKeyMap, state: KeyGenState, id: u32, sig: u64) -> bool
+pub fn verify_signature(pub_keys: PubKeyMap, state: Option<KeyGenState>, id: u32, sig: u64) -> bool
     ensures { result ≡ valid_under (nodes_of pub_keys) (candidate_nodes (running.state_of state)) id sig }
 {
-    let key_gen = state.key_gen;
-    let candidate = key_gen.pub_keys;
-    verify_under(pub_keys, state.running, candidate, id, sig)
+    let candidate = state.map(|s| s.key_gen.pub_keys);
+    verify_under(pub_keys, candidate, id, sig)
 }
 
-// The same by the two maps, for a loop that has key generation in parts; the second counts where key generation runs.
-pub fn verify_under(
-    pub_keys: PubKeyMap,
-    running: bool,
-    candidate: PubKeyMap,
-    id: u32,
-    sig: u64,
-) -> bool
-    ensures { result ≡ valid_under (nodes_of pub_keys) (cond running (found (nodes_of candidate)) nothing) id sig }
+// The same by the two maps, for a loop that has key generation in parts.
+pub fn verify_under(pub_keys: PubKeyMap, candidate: Option<PubKeyMap>, id: u32, sig: u64) -> bool
+    ensures { result ≡ valid_under (nodes_of pub_keys) (option_as_found nodes_of candidate) id sig }
 {
-    is_key(pub_keys, id, sig) || (running && is_key(candidate, id, sig))
+    is_key(pub_keys, id, sig) || candidate.is_some_and(|keys| is_key(keys, id, sig))
 }
 
 // Whether a signature is under the id's key of a map.
 pub fn is_key(map: PubKeyMap, id: u32, sig: u64) -> bool
     ensures { result ≡ is_key sig (key_of (nodes_of map) id) }
 {
-    let Some(key) = network_info::node_key(map, id) else {
-        return false;
-    };
-    key == sig
+    network_info::node_key(map, id) == Some(sig)
 }
 
 // The era that a message is of.
 fn message_era(m: Message) -> u64
     ensures { result ≡ message_era (content_of m) }
 {
-    let x = m.vote;
-    let vote = x.vote;
-    let kind = m.kind;
-    match kind {
-        MessageKind::KeyGen => m.era,
-        MessageKind::SignedVote => vote.era,
+    match m {
+        Message::KeyGen(era, _, _) => era,
+        Message::SignedVote(x) => x.vote.era,
     }
 }
 
-// Whether a map is in progress.
-fn is_map_in_progress(state: ChangeState) -> bool
-    ensures { result ≡ in_progress_map (progress_of state) }
+// The map that is in progress, of which a node that joins begins key generation.
+fn map_in_progress(change: ChangeState) -> Option<PubKeyMap>
+    ensures { result ≡ map_in_progress change }
 {
-    let progress = state.progress;
-    let change = state.change;
-    let kind = change.kind;
-    match progress {
-        Progress::None => false,
-        Progress::Complete => false,
-        Progress::InProgress => match kind {
-            ChangeKind::NodeChange => true,
-            ChangeKind::EncryptionSchedule(_) => false,
-        },
+    match change {
+        ChangeState::InProgress(Change::NodeChange(map)) => Some(map),
+        _ => None,
     }
-}
-
-// Writes the due items of a fresh key generation, a part where its map holds this node, into the lent lists, and answers how many.
-fn due_part(
-    map: PubKeyMap,
-    our_id: u32,
-    era: u64,
-    kinds: &mut [u8],
-    indices: &mut [u64],
-    eras: &mut [u64],
-) -> usize
-    ensures { (result ≡ length (part_due (nodes_of map) our_id era))
-        × DueIn (part_due (nodes_of map) our_id era) kinds.old kinds.new indices.old indices.new eras.old eras.new }
-{
-    if network_info::is_member(map, our_id) {
-        let item = DueItem {
-            kind: DueKind::Part,
-            era,
-        };
-        filled::store_due(item, 0, kinds, indices, eras);
-        return 1;
-    }
-    0
-}
-
-// What signing a vote says of casting it.
-fn signed_as(outcome: Result<SignedVote, Refusal>) -> Result<Option<SignedVote>, Refusal>
-    ensures { result ≡ signed_as outcome }
-{
-    Ok(Some(outcome?))
 }
 
 // A change that comes as bytes: rows 2 and 3 first; a non-validator's does nothing.
@@ -208,50 +152,40 @@ fn wanted_with(map: PubKeyMap, our_id: u32, id: u32, key: u64) -> Result<Option<
     if key == 0 {
         return Err(Refusal::Malformed);
     }
-    if network_info::is_member(map, our_id) {
-        if node_change::is_full_for(map, id) {
-            return Err(Refusal::MapFull);
-        }
-        let next = node_change::with_node(map, Node::new(id, key));
-        return Ok(Some(Change::node_change(next)));
+    if !network_info::is_member(map, our_id) {
+        return Ok(None);
     }
-    Ok(None)
+    if node_change::is_full_for(map, id) {
+        return Err(Refusal::MapFull);
+    }
+    let next = node_change::with_node(map, Node::new(id, key));
+    Ok(Some(Change::node_change(next)))
 }
 
 // The map without a node; without such a node it is the current map.
 fn wanted_without(map: PubKeyMap, our_id: u32, id: u32) -> Result<Option<Change>, Refusal>
     ensures { WantedFor base (nodes_of map) our_id (λ s. vote_to_remove base s id) result }
 {
-    if network_info::is_member(map, our_id) {
-        let next = node_change::without_node(map, id);
-        return Ok(Some(Change::node_change(next)));
+    if !network_info::is_member(map, our_id) {
+        return Ok(None);
     }
-    Ok(None)
+    let next = node_change::without_node(map, id);
+    Ok(Some(Change::node_change(next)))
 }
 
-// Casts an own vote on the counter alone: the rest of the state is large, and stays where it is.
-fn cast(counter: VoteCounter, wanted: Result<Option<Change>, Refusal>) -> CastVote
-    ensures { CastFor base counter wanted result × UncastKeeps result counter }
+// Casts an own vote, where one is wanted, on the counter alone: the rest of the state is large, and stays where it is.
+fn cast(
+    counter: &mut VoteCounter,
+    wanted: Result<Option<Change>, Refusal>,
+) -> Result<Option<SignedVote>, Refusal>
+    ensures { CastFor base counter.old wanted counter.new result × UncastKeeps result counter.new counter.old }
 {
-    match wanted {
-        Ok(Some(change)) => {
-            let r = counter.sign_vote_for(change);
-            let signed = r.outcome;
-            let next = r.counter;
-            CastVote {
-                counter: next,
-                outcome: signed_as(signed),
-            }
-        }
-        Ok(None) => CastVote {
-            counter,
-            outcome: Ok(None),
-        },
-        Err(n) => CastVote {
-            counter,
-            outcome: Err(n),
-        },
-    }
+    let Some(change) = wanted? else {
+        return Ok(None);
+    };
+    let r = counter.sign_vote_for(change);
+    *counter = r.counter;
+    Ok(Some(r.outcome?))
 }
 
 // What adding a received vote says of its message.
@@ -265,100 +199,59 @@ fn added_as(outcome: VoteOutcome) -> Result<Option<FaultKind>, Refusal>
     }
 }
 
-// A key message under its sender's id.
-fn key_message(sender: u32, m: Message) -> SignedKeyGenMsg
-    ensures { key_gen.signed_of result ≡ key_message sender m }
+// A key message of the current era, under its sender's id: its signature, running key generation, its sender's count, the store.
+fn judge_key(m: SignedKeyGenMsg, known: Known) -> Task
+    ensures { JudgedKey base (nodes_of known.pub_keys) (running.state_of known.key_gen_state) known.held (key_gen.signed_of m) result }
 {
-    let message = m.message;
-    SignedKeyGenMsg {
-        era: m.era,
-        id: sender,
-        message,
-        sig: m.sig,
+    if !verify_signature(known.pub_keys, known.key_gen_state, m.id, m.sig) {
+        return Task::Answer(Ok(Some(FaultKind::InvalidKeyGenMessageSignature)));
     }
-}
-
-// What a message is judged to do.
-fn judged_as(
-    task: Task,
-    outcome: Result<Option<FaultKind>, Refusal>,
-    counted: KeyGenState,
-) -> Judged
-    ensures { result ≡ record { task = task; outcome = outcome; counted = counted } }
-{
-    Judged {
-        task,
-        outcome,
-        counted,
-    }
-}
-
-// A key message of the current era: its signature, running key generation, its sender's count, the store.
-fn judge_key(m: Message, sender: u32, map: PubKeyMap, state: KeyGenState, held: usize) -> Judged
-    ensures { JudgedKey base (nodes_of map) (running.state_of state) held sender m result }
-{
-    if !verify_signature(map, state, sender, m.sig) {
-        let fault = Ok(Some(FaultKind::InvalidKeyGenMessageSignature));
-        return judged_as(Task::Nothing, fault, state);
-    }
-    if !state.running {
-        let fault = Ok(Some(FaultKind::UnexpectedKeyGenMessage));
-        return judged_as(Task::Nothing, fault, state);
-    }
-    let key_gen = state.key_gen;
-    let candidate = key_gen.pub_keys;
-    let c = state.count_messages(map, sender);
-    let counted = c.state;
+    let Some(state) = known.key_gen_state else {
+        return Task::Answer(Ok(Some(FaultKind::UnexpectedKeyGenMessage)));
+    };
+    let candidate = state.key_gen.pub_keys;
+    let c = state.count_messages(known.pub_keys, m.id);
     if candidate.len() + 1 < c.count as usize {
-        let fault = Ok(Some(FaultKind::TooManyKeyGenMessages));
-        return judged_as(Task::Count, fault, counted);
+        return Task::Count(c.state);
     }
-    if held < MessageStore::LIMIT {
-        return judged_as(Task::Store(key_message(sender, m)), Ok(None), counted);
+    if known.held < MessageStore::LIMIT {
+        return Task::Store(c.state, m);
     }
-    judged_as(Task::Nothing, Err(Refusal::StoreFull), state)
+    Task::Answer(Err(Refusal::StoreFull))
 }
 
 // What a message is judged to do, its era first.
-fn judge_content(
-    m: Message,
-    sender: u32,
-    era: u64,
-    map: PubKeyMap,
-    state: KeyGenState,
-    held: usize,
-) -> Judged
-    ensures { JudgedContent base era (nodes_of map) (running.state_of state) held sender (content_of m) result }
+fn judge_content(m: Message, sender: u32, known: Known) -> Task
+    ensures { JudgedContent base known.era (nodes_of known.pub_keys) (running.state_of known.key_gen_state) known.held sender (content_of m) result }
 {
     let sent = message_era(m);
-    if era < sent {
-        let fault = Ok(Some(FaultKind::UnexpectedDhbMessageEra));
-        return judged_as(Task::Nothing, fault, state);
+    if known.era < sent {
+        return Task::Answer(Ok(Some(FaultKind::UnexpectedDhbMessageEra)));
     }
-    if sent < era {
-        return judged_as(Task::Nothing, Ok(None), state);
+    if sent < known.era {
+        return Task::Answer(Ok(None));
     }
-    let kind = m.kind;
-    match kind {
-        MessageKind::KeyGen => judge_key(m, sender, map, state, held),
-        MessageKind::SignedVote => judged_as(Task::Vote(m.vote), Ok(None), state),
+    match m {
+        Message::KeyGen(era, message, sig) => judge_key(
+            SignedKeyGenMsg {
+                era,
+                id: sender,
+                message,
+                sig,
+            },
+            known,
+        ),
+        Message::SignedVote(x) => Task::Vote(x),
     }
 }
 
-// The same of a message as bytes, by small parts of the state, since the whole is large: rows 2 and 3 first.
-fn judge(
-    bytes: &[u8],
-    sender: u32,
-    era: u64,
-    map: PubKeyMap,
-    state: KeyGenState,
-    held: usize,
-) -> Judged
-    ensures { JudgedRead base era (nodes_of map) (running.state_of state) held sender bytes.now result }
+// The same of a message as bytes: rows 2 and 3 first.
+fn judge(bytes: &[u8], sender: u32, known: Known) -> Task
+    ensures { JudgedRead base known.era (nodes_of known.pub_keys) (running.state_of known.key_gen_state) known.held sender bytes.now result }
 {
     match message::read_whole_message(bytes) {
-        Ok((m, _)) => judge_content(m, sender, era, map, state, held),
-        Err(n) => judged_as(Task::Nothing, Err(n), state),
+        Ok((m, _)) => judge_content(m, sender, known),
+        Err(n) => Task::Answer(Err(n)),
     }
 }
 
@@ -370,7 +263,7 @@ impl DynamicHoneyBadger {
         DynamicHoneyBadger {
             params,
             vote_counter: VoteCounter::new(our_id, secret_key, pub_keys, era),
-            key_gen_state: KeyGenState::empty(),
+            key_gen_state: None,
             store: MessageStore::empty(),
             last: None,
         }
@@ -402,43 +295,49 @@ impl DynamicHoneyBadger {
         ensures { JoinedLent base our_id secret_key plan.now result
             due_kinds.old due_kinds.new due_indices.old due_indices.new due_eras.old due_eras.new }
     {
-        let shorter = filled::shorter_of(due_kinds.len(), due_indices.len());
-        let due_places = filled::shorter_of(shorter, due_eras.len());
+        let due_places = due_kinds.len().min(due_indices.len()).min(due_eras.len());
         let read = joining::check_joining(due_places, our_id, secret_key, plan)?;
         let pub_keys = read.pub_keys;
         let params = read.params;
         let change = read.change;
         let state = DynamicHoneyBadger::open(our_id, secret_key, read.era, pub_keys, params);
-        Ok(state.join(our_id, read.era, change, due_kinds, due_indices, due_eras))
+        Ok(state.join(change, due_kinds, due_indices, due_eras))
     }
 
-    // What the plan's change asks of a node that joins.
+    // What the plan's change asks of a node that joins: where a map is in progress, a fresh key generation, and a part where that map holds this node.
     fn join(
         mut self,
-        our_id: u32,
-        era: u64,
-        state: ChangeState,
+        change: ChangeState,
         kinds: &mut [u8],
         indices: &mut [u64],
         eras: &mut [u64],
     ) -> JoinStarted
-        ensures { (join_answer_of result ≡ numbered (joined_by base our_id era (progress_of state) (state_of self)))
-            × DueIn (joined_by base our_id era (progress_of state) (state_of self)).due
+        ensures { (join_answer_of result ≡ numbered (joined_by base self.vote_counter.our_id self.vote_counter.era (progress_of change) (state_of self)))
+            × DueIn (joined_by base self.vote_counter.our_id self.vote_counter.era (progress_of change) (state_of self)).due
             kinds.old kinds.new indices.old indices.new eras.old eras.new }
     {
-        let change = state.change;
-        let map = change.map;
-        if is_map_in_progress(state) {
-            let counter = self.vote_counter;
-            self.key_gen_state = KeyGenState::new(KeyGen::new(counter.our_id, map));
+        let Some(map) = map_in_progress(change) else {
             return JoinStarted {
                 state: self,
-                due: due_part(map, our_id, era, kinds, indices, eras),
+                due: 0,
+            };
+        };
+        let counter = self.vote_counter;
+        self.key_gen_state = Some(KeyGenState::new(KeyGen::new(counter.our_id, map)));
+        if !network_info::is_member(map, counter.our_id) {
+            return JoinStarted {
+                state: self,
+                due: 0,
             };
         }
+        let part = DueItem {
+            kind: DueKind::Part,
+            era: counter.era,
+        };
+        filled::store_due(part, 0, kinds, indices, eras);
         JoinStarted {
             state: self,
-            due: 0,
+            due: 1,
         }
     }
 
@@ -456,11 +355,8 @@ impl DynamicHoneyBadger {
         ensures { (voted_of result ≡ vote_for_bytes base (state_of self) change.now) × NotCastKeeps result self }
     {
         let counter = self.vote_counter;
-        let map = counter.pub_keys;
-        let r = cast(counter, wanted_from(map, counter.our_id, change));
-        let next = r.counter;
-        let outcome = r.outcome;
-        self.vote_counter = next;
+        let wanted = wanted_from(counter.pub_keys, counter.our_id, change);
+        let outcome = cast(&mut self.vote_counter, wanted);
         Voted {
             state: self,
             outcome,
@@ -472,11 +368,8 @@ impl DynamicHoneyBadger {
         ensures { (voted_of result ≡ vote_to_add base (state_of self) id key) × NotCastKeeps result self }
     {
         let counter = self.vote_counter;
-        let map = counter.pub_keys;
-        let r = cast(counter, wanted_with(map, counter.our_id, id, key));
-        let next = r.counter;
-        let outcome = r.outcome;
-        self.vote_counter = next;
+        let wanted = wanted_with(counter.pub_keys, counter.our_id, id, key);
+        let outcome = cast(&mut self.vote_counter, wanted);
         Voted {
             state: self,
             outcome,
@@ -488,11 +381,8 @@ impl DynamicHoneyBadger {
         ensures { (voted_of result ≡ vote_to_remove base (state_of self) id) × NotCastKeeps result self }
     {
         let counter = self.vote_counter;
-        let map = counter.pub_keys;
-        let r = cast(counter, wanted_without(map, counter.our_id, id));
-        let next = r.counter;
-        let outcome = r.outcome;
-        self.vote_counter = next;
+        let wanted = wanted_without(counter.pub_keys, counter.our_id, id);
+        let outcome = cast(&mut self.vote_counter, wanted);
         Voted {
             state: self,
             outcome,
@@ -504,36 +394,33 @@ impl DynamicHoneyBadger {
         ensures { (handled_of result ≡ received base (state_of self) sender message.now) × MessageRefusedKeeps result self }
     {
         let counter = self.vote_counter;
-        let state = self.key_gen_state;
         let store = self.store;
-        let j = judge(
-            message,
-            sender,
-            counter.era,
-            counter.pub_keys,
-            state,
-            store.count,
-        );
-        let task = j.task;
-        let mut outcome = j.outcome;
-        match task {
-            Task::Nothing => {}
+        let known = Known {
+            era: counter.era,
+            pub_keys: counter.pub_keys,
+            key_gen_state: self.key_gen_state,
+            held: store.len(),
+        };
+        let outcome = match judge(message, sender, known) {
+            Task::Answer(outcome) => outcome,
             Task::Vote(x) => {
                 let counter = self.vote_counter;
                 let a = counter.add_pending_vote(x);
                 self.vote_counter = a.counter;
-                outcome = added_as(a.outcome);
+                added_as(a.outcome)
             }
-            Task::Count => {
-                self.key_gen_state = j.counted;
+            Task::Count(counted) => {
+                self.key_gen_state = Some(counted);
+                Ok(Some(FaultKind::TooManyKeyGenMessages))
             }
-            Task::Store(m) => {
-                self.key_gen_state = j.counted;
+            Task::Store(counted, m) => {
+                self.key_gen_state = Some(counted);
                 let store = self.store;
                 let p = store.push(m);
                 self.store = p.store;
+                Ok(None)
             }
-        }
+        };
         Handled {
             state: self,
             outcome,
@@ -570,15 +457,11 @@ impl DynamicHoneyBadger {
     {
         let counter = self.vote_counter;
         let pending = counter.pending;
-        for place in 0..pending.len() {
-            let Some(x) = counter.pending_vote(place) else {
-                return false;
-            };
-            if x.voter == counter.our_id {
-                return true;
-            }
-        }
-        false
+        (0..pending.len()).any(|place| {
+            counter
+                .pending_vote(place)
+                .is_some_and(|x| x.voter == counter.our_id)
+        })
     }
 
     // Whether to make a contribution for the next epoch. The host lends whether it has given its input, and how many proposals came.
@@ -611,12 +494,6 @@ impl DynamicHoneyBadger {
 pub fn epoch_in(era: u64, inner: u64) -> Result<u64, Refusal>
     ensures { said_next result ≡ epoch_in era inner }
 {
-    let last = 18446744073709551614;
-    if last < era {
-        return Err(Refusal::LastEpoch);
-    }
-    if last - era < inner {
-        return Err(Refusal::LastEpoch);
-    }
-    Ok(era + inner)
+    let epoch = era.checked_add(inner);
+    epoch.filter(|e| *e < u64::MAX).ok_or(Refusal::LastEpoch)
 }

@@ -1,5 +1,6 @@
 -- The nineteen kinds of fault, numbered in the order in which they are declared; and a log of faults, in order of arising.
-use Rattle.std.specs.Prelude.{ℕ, List, take, replicate}
+use Rattle.std.specs.Prelude.{ℕ, List, replicate}
+use Rattle.array_list.specs.ArrayList.{items_in}
 use Rattle.bincode.specs.Sizes.{base}
 use Rattle.fault_log.specs.declared.PartFault.{PartFault}
 use Rattle.fault_log.specs.declared.PartFault.TheVariants.{RowCount, MultipleParts, DecryptRow, DeserializeRow, RowCommitment}
@@ -39,10 +40,10 @@ fault_number (SyncKeyGenAck a) = ack_fault_number a
 
 -- the faults of any value of the struct: those below the count, as far as the array reaches
 abbrev pub faults_of : FaultLog → List Fault
-faults_of l = take l.count l.faults
+faults_of l = items_in l.faults
 
 abbrev pub no_fault : Fault
 no_fault = record { node_id = 0; kind = InvalidVoteSignature }
 
 abbrev pub no_faults : FaultLog
-no_faults = record { count = 0; faults = replicate base.faults no_fault }
+no_faults = record { faults = record { count = 0; items = replicate base.faults no_fault } }

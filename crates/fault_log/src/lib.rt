@@ -5,6 +5,8 @@ ghost use Rattle.std.specs.Prelude.{◌≡◌, ◌∷◌, [], ◌++◌, ◌≤�
 ghost use Rattle.bincode.specs.Sizes.{base};
 ghost use Rattle.fault_log.specs.FaultLog.{fault_number, part_fault_number, ack_fault_number, faults_of, no_fault, no_faults};
 
+use array_list::ArrayList;
+
 // sync_key_gen.rs: what is wrong with a part.
 #[derive(Clone, Copy, PartialEq, Eq)]
 pub enum PartFault {
@@ -64,11 +66,10 @@ impl Fault {
     }
 }
 
-// In order of arising; places from `count` on do not count.
+// In order of arising.
 #[derive(Clone, Copy)]
 pub struct FaultLog {
-    pub count: usize,
-    pub faults: [Fault; FaultLog::LIMIT],
+    pub faults: ArrayList<Fault, { FaultLog::LIMIT }>,
 }
 
 impl FaultLog {
@@ -78,8 +79,7 @@ impl FaultLog {
         ensures { result ≡ no_faults }
     {
         FaultLog {
-            count: 0,
-            faults: [Fault::empty(); FaultLog::LIMIT],
+            faults: ArrayList::empty(Fault::empty()),
         }
     }
 
@@ -87,18 +87,14 @@ impl FaultLog {
     pub fn len(self) -> usize
         ensures { (result ≡ length (faults_of self)) × (result ≤ base.faults) }
     {
-        self.count.min(FaultLog::LIMIT)
+        self.faults.len()
     }
 
     // One fault more; a full log has no place for it.
     pub fn append(mut self, fault: Fault) -> Self
         ensures { faults_of result ≡ take base.faults (faults_of self ++ (fault ∷ [])) }
     {
-        let n = self.len();
-        if n < FaultLog::LIMIT {
-            self.faults[n] = fault;
-            self.count = n + 1;
-        }
+        self.faults.push(fault);
         self
     }
 }

@@ -2,17 +2,9 @@
 #![tactic(auto)]
 
 ghost use Rattle.std.specs.Prelude.{◌≡◌, set};
-ghost use Rattle.filled.specs.Filled.{shorter};
 ghost use Rattle.filled.specs.Numbers.{due_number, due_proposer, DueAt};
 
 use due::{DueItem, DueKind};
-
-// The shorter of two lengths.
-pub fn shorter_of(a: usize, b: usize) -> usize
-    ensures { result ≡ shorter a b }
-{
-    a.min(b)
-}
 
 // A due item's kind as a number.
 pub fn due_number(kind: DueKind) -> u8
@@ -34,24 +26,8 @@ pub fn due_proposer(kind: DueKind) -> u64
     }
 }
 
-// A number at a place of a lent list; where there is no such place, nothing changes.
-pub fn put_u8(list: &mut [u8], n: usize, x: u8)
-    ensures { list.new ≡ set list.old n x }
-{
-    if n < list.len() {
-        list[n] = x;
-    }
-}
-
-pub fn put_u32(list: &mut [u32], n: usize, x: u32)
-    ensures { list.new ≡ set list.old n x }
-{
-    if n < list.len() {
-        list[n] = x;
-    }
-}
-
-pub fn put_u64(list: &mut [u64], n: usize, x: u64)
+// A value at a place of a lent list; where there is no such place, nothing changes.
+pub fn put<T: Copy>(list: &mut [T], n: usize, x: T)
     ensures { list.new ≡ set list.old n x }
 {
     if n < list.len() {
@@ -64,7 +40,7 @@ pub fn store_due(item: DueItem, at: usize, kinds: &mut [u8], indices: &mut [u64]
     ensures { DueAt item at kinds.old kinds.new indices.old indices.new eras.old eras.new }
 {
     let kind = item.kind;
-    put_u8(kinds, at, due_number(kind));
-    put_u64(indices, at, due_proposer(kind));
-    put_u64(eras, at, item.era);
+    put(kinds, at, due_number(kind));
+    put(indices, at, due_proposer(kind));
+    put(eras, at, item.era);
 }

@@ -8,7 +8,7 @@ ghost use Rattle.bincode.specs.Numbers.{fixed};
 ghost use Rattle.bincode.specs.Writing.{written, written_to};
 ghost use Rattle.honey_badger.specs.EncryptionSchedule.{cycle_of, use_on_epoch, read_schedule, schedule_bytes};
 
-use bincode::Refusal;
+use bincode::{Encoded, Refusal};
 
 #[derive(Clone, Copy, PartialEq, Eq)]
 pub enum EncryptionSchedule {
@@ -95,14 +95,11 @@ pub fn read_schedule(s: &[u8], at: usize) -> Result<(EncryptionSchedule, usize),
 }
 
 // A schedule that is a whole input: nothing may be left over.
+#[tactic(auto, using(bincode::proofs::AnswerLaws::all_read_whole))]
 pub fn read_whole_schedule(s: &[u8]) -> Result<(EncryptionSchedule, usize), Refusal>
     ensures { result ≡ answer (λ (x : EncryptionSchedule). x) (whole (read_schedule fixed s.now) s.now) }
 {
-    let (x, c) = read_schedule(s, 0)?;
-    if c < s.len() {
-        return Err(Refusal::Malformed);
-    }
-    Ok((x, c))
+    bincode::all_read(s, read_schedule(s, 0))
 }
 
 // How many bytes a schedule takes.
@@ -114,18 +111,6 @@ pub fn schedule_size(x: EncryptionSchedule) -> usize
         EncryptionSchedule::Never => 4,
         EncryptionSchedule::EveryNthEpoch(_) => 8,
         EncryptionSchedule::TickTock(_, _) => 12,
-    }
-}
-
-fn write_every_nth(buf: &mut [u8], at: usize, n: u32) -> usize
-    ensures { (buf.new ≡ written buf.old at (schedule_bytes fixed (EncryptionSchedule.EveryNthEpoch n)))
-        × (result ≡ written_to buf.old at (schedule_bytes fixed (EncryptionSchedule.EveryNthEpoch n))) }
-{
-    if bincode::room(buf.len(), at, 8) {
-        let c = bincode::write_u32(buf, at, 2);
-        bincode::write_u32(buf, c, n)
-    } else {
-        at
     }
 }
 
@@ -149,7 +134,19 @@ pub fn write_schedule(buf: &mut [u8], at: usize, x: EncryptionSchedule) -> usize
     match x {
         EncryptionSchedule::Always => bincode::write_u32(buf, at, 0),
         EncryptionSchedule::Never => bincode::write_u32(buf, at, 1),
-        EncryptionSchedule::EveryNthEpoch(n) => write_every_nth(buf, at, n),
+        EncryptionSchedule::EveryNthEpoch(n) => bincode::write_both(buf, at, 2u32, n),
         EncryptionSchedule::TickTock(on, off) => write_tick_tock(buf, at, on, off),
+    }
+}
+
+impl Encoded for EncryptionSchedule {
+    ghost bytes = { schedule_bytes fixed };
+
+    fn size(&self) -> usize {
+        schedule_size(*self)
+    }
+
+    fn write(&self, buf: &mut [u8], at: usize) -> usize {
+        write_schedule(buf, at, *self)
     }
 }

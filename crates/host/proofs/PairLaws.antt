@@ -1,12 +1,12 @@
--- Two lists of numbers as one of records, and the loop that makes it.
+-- Two lists of numbers as one of records, and what they say of faults.
 -- Assumes nothing.
-use Prim.Native.Nat.{ℕ, zero, suc, ◌+◌, ◌≤◌, ◌<◌}
+use Prim.Native.Nat.{ℕ, zero, suc, ◌+◌, ◌≤◌, ◌<◌, min}
 use mathlib.Core.Path.{◌≡◌, refl, sym, ap, ◌∙◌}
 use mathlib.Core.List.{List, [], ◌∷◌, ◌++◌, map}
 use native.Mathlib.Omega.{arith}
 use native.Mathlib.Numerals.{add-one}
-use lib.ListN.{length, take, get_or, set, length-map}
-use lib.Seq.{length-take-le, take_at, take-take, take-suc-set}
+use lib.ListN.{length, take, get_or, length-map}
+use lib.Seq.{length-take-le, take_at, take-take}
 use Rattle.fault_log.specs.declared.Fault.{Fault}
 use Rattle.filled.specs.Filled.{filled}
 use Rattle.filled.specs.Numbers.{fault_id, kind_number, FaultsIn}
@@ -20,28 +20,33 @@ unfolding pairs
 pairs_of [] = refl
 pairs_of (f ∷ fs) = ap (λ (rs : List FaultRecord). record_of f ∷ rs) (pairs_of fs)
 
--- one pair more
-pairs_more : (is ks : List ℕ) (j : ℕ) → j < length is → j < length ks
-    → pairs (take (suc j) is) (take (suc j) ks) ≡ pairs (take j is) (take j ks) ++ (record { node_id = get_or is j 0; kind = get_or ks j 0 } ∷ [])
+-- one pair more, whatever is read past the ends
+pub pairs_more : (is ks : List ℕ) (j a b : ℕ) → j < length is → j < length ks
+    → pairs (take (suc j) is) (take (suc j) ks) ≡ pairs (take j is) (take j ks) ++ (record { node_id = get_or is j a; kind = get_or ks j b } ∷ [])
 unfolding pairs
-pairs_more [] ks j h l = absurd (let y : ⊥ = omega arith in y)
-pairs_more (i ∷ is) [] j h l = absurd (let y : ⊥ = omega arith in y)
-pairs_more (i ∷ is) (k ∷ ks) zero h l = refl
-pairs_more (i ∷ is) (k ∷ ks) (suc j) h l = ap (λ (rs : List FaultRecord). record { node_id = i; kind = k } ∷ rs) (pairs_more is ks j (omega arith) (omega arith))
+pairs_more [] ks j a b h l = absurd (let y : ⊥ = omega arith in y)
+pairs_more (i ∷ is) [] j a b h l = absurd (let y : ⊥ = omega arith in y)
+pairs_more (i ∷ is) (k ∷ ks) zero a b h l = refl
+pairs_more (i ∷ is) (k ∷ ks) (suc j) a b h l = ap (λ (rs : List FaultRecord). record { node_id = i; kind = k } ∷ rs) (pairs_more is ks j a b (omega arith) (omega arith))
 
--- the loop: the first i places of the array hold the first i pairs
-module _ (ids kinds : List ℕ) where
-  abbrev pub PairedTo : ℕ → List FaultRecord → Type 0
-  PairedTo i items = take i items ≡ pairs (take i ids) (take i kinds)
+-- all pairs, by as many places as the shorter list has
+pub pairs_all : (is ks : List ℕ) (n : ℕ) → n ≡ min (length is) (length ks) → pairs (take n is) (take n ks) ≡ pairs is ks
+unfolding pairs
+pairs_all is ks n e = go is ks n e
+  where
+    go : (is ks : List ℕ) (n : ℕ) → n ≡ min (length is) (length ks) → pairs (take n is) (take n ks) ≡ pairs is ks
+    go [] ks n e = ap (λ (m : ℕ). pairs (take m []) (take m ks)) (let z : n ≡ 0 = omega (arith, e) in z)
+    go (i ∷ is) [] n e = ap (λ (m : ℕ). pairs (take m (i ∷ is)) (take m [])) (let z : n ≡ 0 = omega (arith, e) in z)
+    go (i ∷ is) (k ∷ ks) zero e = absurd (let y : ⊥ = omega (arith, e) in y)
+    go (i ∷ is) (k ∷ ks) (suc m) e = ap (λ (rs : List FaultRecord). record { node_id = i; kind = k } ∷ rs) (go is ks m (omega (arith, e)))
 
-  pub paired_start : (items : List FaultRecord) → PairedTo 0 items
-  unfolding pairs
-  paired_start items = refl
-
-  pub paired_turn : (i : ℕ) (items : List FaultRecord) → PairedTo i items → i < length ids → i < length kinds → i < length items
-      → PairedTo (i + 1) (set items i (record { node_id = get_or ids i 0; kind = get_or kinds i 0 }))
-  paired_turn i items e h k l =
-      rw (add-one i, take-suc-set items i (record { node_id = get_or ids i 0; kind = get_or kinds i 0 }) l, e, pairs_more ids kinds i h k)
+-- as many as both first parts have
+pub pairs_length : (is ks : List ℕ) (j : ℕ) → j < length is → j < length ks → length (pairs (take j is) (take j ks)) ≡ j
+unfolding pairs
+pairs_length [] ks j h l = absurd (let y : ⊥ = omega arith in y)
+pairs_length (i ∷ is) [] j h l = absurd (let y : ⊥ = omega arith in y)
+pairs_length (i ∷ is) (k ∷ ks) zero h l = refl
+pairs_length (i ∷ is) (k ∷ ks) (suc j) h l = ap suc (pairs_length is ks j (omega arith) (omega arith))
 
 -- lists that were filled with what faults say, in their first places, give the faults' records
 filled_front : (xs old new : List ℕ) (n places : ℕ) → n ≡ length xs → n ≤ places → length xs ≤ length (take places old) → take places new ≡ filled xs (take places old) → take n new ≡ xs

@@ -10,6 +10,7 @@ use lib.Dec.{ltb}
 use lib.ListN.{length, take, get_or, set}
 use lib.Seq.{take_at, take_all, take-suc, length-take-le}
 use borrow.Author.Tests.{ltb-true, ltb-false, le-ltb, lt-ltb}
+use Rattle.std.specs.List.{zip, enumerate_from}
 use Rattle.std.specs.declared.result.Result.{Result}
 use Rattle.std.specs.declared.result.Result.TheVariants.{Ok, Err}
 use Rattle.bincode.specs.Read.{Read, value, refuse}
@@ -28,9 +29,10 @@ use Rattle.process_batch.specs.declared.Processed.{Processed}
 use Rattle.process_batch.specs.Answer.{Summary, summed, report_of, faults_told, ProcessedAs}
 use Rattle.process_batch.specs.Lent.{Lists, lent_call, faults_in, Filled, BatchDone}
 use Rattle.host.specs.declared.FaultRecord.{FaultRecord}
-use Rattle.host.specs.declared.Answered.{Answered}
-use Rattle.host.specs.Records.{DueLists, record_of, places_call, records_in, pairs, answer_of, DueDone, FirstDone, FaultsDone}
-use Rattle.host.proofs.PairLaws.{lists_paired}
+use Rattle.host.specs.Records.{DueLists, record_of, places_call, pairs, answer_of, BatchAnswered, DueDone}
+use Rattle.std.proofs.lemmas.List.FromFn.{length-enumerate_from, get_or-enumerate_from}
+use Rattle.std.proofs.lemmas.Slice.Zip.{length-zip, get_or-zip}
+use Rattle.host.proofs.PairLaws.{lists_paired, pairs_more, pairs_length, pairs_all}
 
 -- the shorter of two lengths is no longer than the second
 pub shorter_le : (a b : ℕ) → shorter a b ≤ b
@@ -116,45 +118,59 @@ module _ (z : Sizes) (s : StateOf) (era inner : ℕ) (bytes verdicts : List ℕ)
 pub first_filled : (xs old part rest : List ℕ) (k : ℕ) → k ≤ length old → part ≡ filled xs (take k old) → take k (part ++ rest) ≡ filled xs (take k old)
 first_filled xs old part rest k h e = take_at part rest k (ap length e ∙ length_filled xs (take k old) ∙ length-take-le k old h) ∙ e
 
--- the batch call on the first places of two lists does what it says of the whole lists
-pub first_done : (s : DynamicHoneyBadger) (era inner : ℕ) (bytes verdicts : List ℕ) (k : ℕ) (ids kinds : List ℕ) (d : DueLists) (r : Processed) (ids' kinds' rest rest' : List ℕ) (d' : DueLists)
-    → k ≤ length ids → k ≤ length kinds → BatchDone s era inner bytes verdicts (lists (take k ids) (take k kinds) d) r (lists ids' kinds' d')
-    → FirstDone s era inner bytes verdicts k ids kinds d r (ids' ++ rest) (kinds' ++ rest') d'
-first_done s era inner bytes verdicts k ids kinds d r ids' kinds' rest rest' d' h l e =
+-- the batch call on the first places of two lists does what it says of as many places as the host lent: answer, faults as records, due items
+pub records_done : (s : DynamicHoneyBadger) (era inner : ℕ) (bytes verdicts : List ℕ) (k n : ℕ) (ids kinds : List ℕ) (d : DueLists) (r : Processed) (ids' kinds' rest rest' : List ℕ) (d' : DueLists)
+    → k ≡ shorter n base.faults → k ≤ length ids → k ≤ length kinds → BatchDone s era inner bytes verdicts (lists (take k ids) (take k kinds) d) r (lists ids' kinds' d')
+    → (m : ℕ) → m ≡ faults_told r.outcome
+    → BatchAnswered r s (places_call era inner bytes verdicts n d)
+    × (pairs (take m (ids' ++ rest)) (take m (kinds' ++ rest')) ≡ map record_of (faults_in (answer_of s (places_call era inner bytes verdicts n d))))
+    × DueDone (answer_of s (places_call era inner bytes verdicts n d)) d d'
+records_done s era inner bytes verdicts k n ids kinds d r ids' kinds' rest rest' d' c h l e m f =
     let x = processed base (state_of s) (lent_call era inner bytes verdicts (lists (take k ids) (take k kinds) d)) in
-    let same : x ≡ processed base (state_of s) (places_call era inner bytes verdicts k d) = first_call base (state_of s) era inner bytes verdicts d ids kinds k h l in
-    let w : ProcessedAs r (processed base (state_of s) (places_call era inner bytes verdicts k d))
-    × Filled (answer_of s (places_call era inner bytes verdicts k d)) (lists (take k ids) (take k kinds) d) (lists ids' kinds' d') =
-    subst (λ (y : ProcessedOf). ProcessedAs r y × Filled y.answer (lists (take k ids) (take k kinds) d) (lists ids' kinds' d')) same (e.0, e.2) in
-    ((w.0, e.1), (first_filled _ ids ids' rest k h w.1.0.0, first_filled _ kinds kinds' rest' k l w.1.0.1), w.1.1, e.3)
-
--- and with them paired, what it says of as many places as the host lent
-pub faults_done : (s : DynamicHoneyBadger) (era inner : ℕ) (bytes verdicts : List ℕ) (k n : ℕ) (ids kinds : List ℕ) (d : DueLists) (r : Answered) (ids' kinds' : List ℕ) (d' : DueLists)
-    → k ≡ shorter n base.faults → k ≤ length ids → k ≤ length kinds → FirstDone s era inner bytes verdicts k ids kinds d r.processed ids' kinds' d'
-    → (m : ℕ) → m ≡ faults_told r.processed.outcome → records_in r.faults ≡ pairs (take m ids') (take m kinds') → FaultsDone s era inner bytes verdicts n d r d'
-faults_done s era inner bytes verdicts k n ids kinds d r ids' kinds' d' c h l e m f p =
-    let x = processed base (state_of s) (places_call era inner bytes verdicts k d) in
-    let all : m ≡ length (faults_in x.answer) = f ∙ faults_counted r.processed x e.0.0 in
+    let y = processed base (state_of s) (places_call era inner bytes verdicts k d) in
+    let same : x ≡ y = first_call base (state_of s) era inner bytes verdicts d ids kinds k h l in
+    let first : ProcessedAs r y × Filled y.answer (lists (take k ids) (take k kinds) d) (lists ids' kinds' d')
+    = subst (λ (z : ProcessedOf). ProcessedAs r z × Filled z.answer (lists (take k ids) (take k kinds) d) (lists ids' kinds' d')) same (e.0, e.2) in
+    let all : m ≡ length (faults_in y.answer) = f ∙ faults_counted r y first.0 in
     let placed : m ≤ k = faults_placed base (state_of s) era inner bytes verdicts d k m all (omega (arith, f, e.3)) in
-    let w : ProcessedAs r.processed (processed base (state_of s) (places_call era inner bytes verdicts n d))
-    × (records_in r.faults ≡ map record_of (faults_in (answer_of s (places_call era inner bytes verdicts n d)))) × DueDone (answer_of s (places_call era inner bytes verdicts n d)) d d' =
-    subst (λ (y : ProcessedOf). ProcessedAs r.processed y × (records_in r.faults ≡ map record_of (faults_in y.answer)) × DueDone y.answer d d')
-    (capped base (state_of s) era inner bytes verdicts d k n c) (e.0.0, p ∙ lists_paired (faults_in x.answer) m k ids ids' kinds kinds' all placed h l e.1, e.2) in
-    ((w.0, e.0.1), w.1, w.2)
+    let paired = lists_paired (faults_in y.answer) m k ids (ids' ++ rest) kinds (kinds' ++ rest') all placed h l
+    (first_filled _ ids ids' rest k h first.1.0.0, first_filled _ kinds kinds' rest' k l first.1.0.1) in
+    let w : ProcessedAs r (processed base (state_of s) (places_call era inner bytes verdicts n d))
+    × (pairs (take m (ids' ++ rest)) (take m (kinds' ++ rest')) ≡ map record_of (faults_in (answer_of s (places_call era inner bytes verdicts n d))))
+    × DueDone (answer_of s (places_call era inner bytes verdicts n d)) d d'
+    = subst (λ (z : ProcessedOf). ProcessedAs r z × (pairs (take m (ids' ++ rest)) (take m (kinds' ++ rest')) ≡ map record_of (faults_in z.answer)) × DueDone z.answer d d')
+    (capped base (state_of s) era inner bytes verdicts d k n c) (first.0, paired, first.1.1) in
+    ((w.0, e.1), w.1, w.2)
 
--- the loop over a list of records: a list that is filled with those before place i
-module _ (xs old : List FaultRecord) where
+-- the loop over two lists: a list that is filled with the first n pairs
+module _ (ids kinds : List ℕ) (old : List FaultRecord) where
   abbrev pub filled_to : ℕ → List FaultRecord
-  filled_to i = filled (take i xs) old
+  filled_to n = filled (pairs (take n ids) (take n kinds)) old
 
   -- at the start it is as it was
   pub filled_start : old ≡ filled_to 0
+  unfolding pairs
   filled_start = sym (filled_none old)
 
   -- a turn: an append at the next place, whether there is one or not
-  pub filled_turn : (i : ℕ) (z : FaultRecord) → i < length xs → set (filled_to i) i (get_or xs i z) ≡ filled_to (i + 1)
-  filled_turn i z h = rw (add-one i, take-suc xs i z h) (filled_next (take i xs) old i (get_or xs i z) (length-take-le i xs (omega (arith, h))))
+  pub filled_turn : (n : ℕ) (x : ℕ × (ℕ × ℕ)) → (n < length (enumerate_from 0 (zip ids kinds))) × (x ≡ get_or (enumerate_from 0 (zip ids kinds)) n x)
+      → set (filled_to n) x.0 (record { node_id = x.1.0; kind = x.1.1 }) ≡ filled_to (n + 1)
+  filled_turn n x h =
+      let l : n < length (zip ids kinds) = omega (arith, h.0, length-enumerate_from 0 (zip ids kinds)) in
+      let i : n < length ids = omega (arith, l, length-zip ids kinds) in
+      let k : n < length kinds = omega (arith, l, length-zip ids kinds) in
+      let e : x ≡ (0 + n, get_or (zip ids kinds) n x.1) = h.1 ∙ get_or-enumerate_from 0 (zip ids kinds) n x l in
+      let at : x.0 ≡ n = ap (λ (y : ℕ × (ℕ × ℕ)). y.0) e ∙ omega arith in
+      let pair : x.1 ≡ (get_or ids n x.1.0, get_or kinds n x.1.1) = ap (λ (y : ℕ × (ℕ × ℕ)). y.1) e ∙ get_or-zip ids kinds n x.1 i k in
+      (λ j. set (filled_to n) (at j) (record { node_id = (pair j).0; kind = (pair j).1 }))
+      ∙ next n x.1.0 x.1.1 i k
+    where
+      next : (n a b : ℕ) → n < length ids → n < length kinds → set (filled_to n) n (record { node_id = get_or ids n a; kind = get_or kinds n b }) ≡ filled_to (n + 1)
+      next n a b i k =
+          rw (add-one n, pairs_more ids kinds n a b i k)
+          (filled_next (pairs (take n ids) (take n kinds)) old n (record { node_id = get_or ids n a; kind = get_or kinds n b }) (pairs_length ids kinds n i k))
 
   -- at the end all are filled in
-  pub filled_all : (i : ℕ) → length xs ≤ i → filled_to i ≡ filled xs old
-  filled_all i h = rw (take_all i xs h)
+  pub filled_all : (n : ℕ) → n ≡ length (enumerate_from 0 (zip ids kinds)) → filled_to n ≡ filled (pairs ids kinds) old
+  filled_all n e =
+      ap (λ (rs : List FaultRecord). filled rs old) (pairs_all ids kinds n (omega (arith, e, length-enumerate_from 0 (zip ids kinds), length-zip ids kinds)))

@@ -1,20 +1,18 @@
 -- 01: "Faults go into a lent list of records, each a station id and a kind": the batch call with such a list, filled from its first place on.
-use Rattle.std.specs.Prelude.{ℕ, ◌≤◌, ◌≡◌, List, [], ◌∷◌, map, length, take}
+use Rattle.std.specs.Prelude.{ℕ, ◌≡◌, List, [], ◌∷◌, map, length}
 use Rattle.bincode.specs.Outcome.{Outcome}
 use Rattle.bincode.specs.Sizes.{base}
 use Rattle.fault_log.specs.declared.Fault.{Fault}
 use Rattle.fault_log.specs.FaultLog.{fault_number}
 use Rattle.filled.specs.Filled.{filled}
-use Rattle.filled.specs.Numbers.{FaultsIn, DueIn, due_places}
+use Rattle.filled.specs.Numbers.{DueIn, due_places}
 use Rattle.dynamic_honey_badger.specs.declared.DynamicHoneyBadger.{DynamicHoneyBadger}
 use Rattle.dynamic_honey_badger.specs.State.{state_of}
 use Rattle.process_output.specs.Process.{BatchCall, ReportOf, processed}
 use Rattle.process_batch.specs.declared.Processed.{Processed}
-use Rattle.process_batch.specs.Answer.{faults_told, ProcessedAs, BatchRefusedKeeps}
+use Rattle.process_batch.specs.Answer.{ProcessedAs, BatchRefusedKeeps}
 use Rattle.process_batch.specs.Lent.{faults_in, due_in}
 use Rattle.host.specs.declared.FaultRecord.{FaultRecord}
-use Rattle.host.specs.declared.FaultRecords.{FaultRecords}
-use Rattle.host.specs.declared.Answered.{Answered}
 
 -- a fault as its node's id and the number of its kind
 abbrev pub record_of : Fault → FaultRecord
@@ -35,13 +33,6 @@ places_call era inner bytes verdicts places d =
 abbrev pub records_call : ℕ → ℕ → List ℕ → List ℕ → List FaultRecord → DueLists → BatchCall
 records_call era inner bytes verdicts faults d = places_call era inner bytes verdicts (length faults) d
 
--- the records of any value of the struct: those below the count, as far as the array reaches
-abbrev pub records_in : FaultRecords → List FaultRecord
-records_in l = take l.count l.items
-
-abbrev pub no_record : FaultRecord
-no_record = record { node_id = 0; kind = 0 }
-
 -- ids and kinds as records, as far as both lists reach
 unfoldable pub pairs : List ℕ → List ℕ → List FaultRecord
 pairs [] ks = []
@@ -59,19 +50,6 @@ BatchAnswered r s b = ProcessedAs r (processed base (state_of s) b) × BatchRefu
 -- what the lists of due items hold at the end
 abbrev pub DueDone : Outcome ReportOf → DueLists → DueLists → Type 0
 DueDone a d d' = DueIn (due_in a) d.kinds d'.kinds d.indices d'.indices d.eras d'.eras
-
--- the batch call with the first places of two lists of faults
-abbrev pub FirstDone : DynamicHoneyBadger → ℕ → ℕ → List ℕ → List ℕ → ℕ → List ℕ → List ℕ → DueLists → Processed → List ℕ → List ℕ → DueLists → Type 0
-FirstDone s era inner bytes verdicts places ids kinds d r ids' kinds' d' =
-    let b = places_call era inner bytes verdicts places d in
-    BatchAnswered r s b × FaultsIn (faults_in (answer_of s b)) (take places ids) (take places ids') (take places kinds) (take places kinds')
-    × DueDone (answer_of s b) d d' × (faults_told r.outcome ≤ base.faults)
-
--- the batch call with its faults beside the answer
-abbrev pub FaultsDone : DynamicHoneyBadger → ℕ → ℕ → List ℕ → List ℕ → ℕ → DueLists → Answered → DueLists → Type 0
-FaultsDone s era inner bytes verdicts places d r d' =
-    let b = places_call era inner bytes verdicts places d in
-    BatchAnswered r.processed s b × (records_in r.faults ≡ map record_of (faults_in (answer_of s b))) × DueDone (answer_of s b) d d'
 
 -- the batch call with a lent list of records, whole; a refused call has no faults and no due items, so its lists are as they were
 abbrev pub RecordsDone : DynamicHoneyBadger → ℕ → ℕ → List ℕ → List ℕ → List FaultRecord → DueLists → Processed → List FaultRecord → DueLists → Type 0

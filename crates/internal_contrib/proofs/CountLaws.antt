@@ -11,7 +11,7 @@ use Rattle.bincode.specs.Numbers.{fixed, read_num}
 use Rattle.bincode.specs.Items.{counted, after, plain, stay, many}
 use Rattle.bincode.specs.Answer.{answer, step_of}
 use Rattle.bincode.specs.declared.Refusal.{Refusal}
-use Rattle.bincode.proofs.ReadLaws.{answer_ok, answer_err, step_ok, step_err}
+use Rattle.bincode.proofs.ReadLaws.{step_ok, step_err}
 use Rattle.bincode.proofs.ItemLaws.{counted_cut, counted_over, counted_start, length_items, many_start, many_turn, many_refused, many_end}
 
 -- a loop that passes items: what it keeps
@@ -23,16 +23,16 @@ module _ {A : Type 0} (rd : ℕ → Read A) (n first : ℕ) where
   pub pass_start : Passing 0 first
   pass_start = record { done = []; rest = many_start rd n first }
 
-  -- a turn, by the answer that reading the item gave
-  module _ (i c : ℕ) (p : Passing i c) (h : i < n) {B : Type 0} (held : A → B) (t : Result (B × ℕ) Refusal) (e : t ≡ answer held (rd c)) where
-    pub pass_more : (b : B) (d : ℕ) → t ≡ Ok (b, d) → Passing (i + 1) d
-    pass_more b d q =
-        let a = answer_ok held (rd c) b d (sym e ∙ q) in
+  -- a turn, by the answer that passing the item gave
+  module _ (i c : ℕ) (p : Passing i c) (h : i < n) (t : Result ℕ Refusal) (e : t ≡ step_of (rd c)) where
+    pub pass_more : (d : ℕ) → t ≡ Ok d → Passing (i + 1) d
+    pass_more d q =
+        let a = step_ok (rd c) d (sym e ∙ q) in
         record { done = p.done ++ (a.0 ∷ []); rest = p.rest ∙ many_turn rd p.done n i c a.0 d h a.1 }
 
     pub pass_refused : (k : Refusal) → t ≡ Err k → ◌≡◌ {A = Result ℕ Refusal} (Err k) (step_of (many rd n first))
     pass_refused k q =
-        let a = answer_err held (rd c) k (sym e ∙ q) in
+        let a = step_err (rd c) k (sym e ∙ q) in
         ap {B = Result ℕ Refusal} Err a.2 ∙ ap step_of (sym (p.rest ∙ many_refused rd p.done n i c a.0 h a.1))
 
   pub pass_done : (i c : ℕ) → Passing i c → n ≤ i → ◌≡◌ {A = Result ℕ Refusal} (Ok c) (step_of (many rd n first))

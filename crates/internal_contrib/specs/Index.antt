@@ -1,7 +1,8 @@
 -- What is kept of a whole batch: the places of its contributions, which stand one behind the other; and what is read again at a place that was kept.
-use Rattle.std.specs.Prelude.{ℕ, ◌+◌, ◌≡◌, List, [], ◌∷◌, length, take}
+use Rattle.std.specs.Prelude.{ℕ, ◌+◌, ◌≡◌, List, [], ◌∷◌, length}
 use Rattle.std.specs.declared.result.Result.{Result}
 use Rattle.lists.specs.Lists.{padded, Found, found, nothing, lookup}
+use Rattle.array_list.specs.ArrayList.{items_in}
 use Rattle.bincode.specs.Read.{Read, value, refuse}
 use Rattle.bincode.specs.Outcome.{Outcome, done, refused}
 use Rattle.bincode.specs.Answer.{outcome_as_said}
@@ -15,14 +16,14 @@ use Rattle.internal_contrib.specs.declared.BatchIndex.{BatchIndex}
 
 -- the contributions of any value of the struct: those below the count, as far as the array reaches
 abbrev pub contribs_in : BatchIndex → List Contrib
-contribs_in x = take x.count x.contribs
+contribs_in x = items_in x.contribs
 
 -- the struct that holds a list of them: unused places are zero
 abbrev pub no_contrib : Contrib
 no_contrib = record { id = 0; user = 0; user_count = 0; messages = 0; message_count = 0; votes = 0; vote_count = 0 }
 
 abbrev pub index_held : List Contrib → BatchIndex
-index_held ks = record { count = length ks; contribs = padded base.nodes no_contrib ks }
+index_held ks = record { contribs = record { count = length ks; items = padded base.nodes no_contrib ks } }
 
 -- contributions that stand one behind the other from a position on
 unfoldable pub placed_from : ℕ → List ContribOf → List Contrib

@@ -1,17 +1,22 @@
 // mod.rs: `InternalContrib`, and a batch of them. There is no heap, so a contribution is kept as the places of its parts, to be read again.
 #![tactic(auto)]
 
-ghost use Rattle.std.specs.Prelude.{ℕ, ◌≡◌, [], ◌≤◌, Bool, length};
-ghost use Rattle.bincode.specs.Items.{many};
+ghost use Rattle.std.specs.Prelude.{ℕ, ◌≡◌, List, [], ◌≤◌, Bool, length};
+ghost use Rattle.bincode.specs.Read.{Read};
+ghost use Rattle.bincode.specs.Numbers.{fixed};
+ghost use Rattle.bincode.specs.Items.{counted, plain, stay, many};
 ghost use Rattle.bincode.specs.Answer.{answer, step_of, outcome_as_said};
 ghost use Rattle.bincode.specs.Sizes.{base};
-ghost use Rattle.votes.specs.Votes.{read_signed_vote};
-ghost use Rattle.key_gen_message.specs.KeyGenMessage.{read_signed_key_gen_msg};
-ghost use Rattle.internal_contrib.specs.InternalContrib.{read_user, read_messages, read_votes, read_contrib, read_batch};
+ghost use Rattle.votes.specs.Votes.{SignedVoteOf, read_signed_vote};
+ghost use Rattle.key_gen_message.specs.KeyGenMessage.{SignedKeyGenMsgOf, read_signed_key_gen_msg};
+ghost use Rattle.internal_contrib.specs.InternalContrib.{read_user, read_contrib, read_batch};
 ghost use Rattle.internal_contrib.specs.Places.{placed, spent, said_place, checked, contributed, user_of, start_of};
-ghost use Rattle.internal_contrib.specs.Index.{contribs_in, index_held, place_in, Indexed};
+ghost use Rattle.internal_contrib.specs.Index.{contribs_in, contrib_id, index_held, place_in, Indexed};
 
+use array_list::{ArrayList, Keyed};
 use bincode::Refusal;
+use key_gen_message::MessageHead;
+use votes::VoteHead;
 
 // Where the parts of a contribution stand: its user bytes, and the counts of its messages and of its votes.
 #[derive(Clone, Copy)]
@@ -28,6 +33,15 @@ pub struct Contrib {
 impl Contrib {
     // User bytes of a contribution.
     pub const USER: u64 = 4096;
+}
+
+// Lists of contributions go by the id.
+impl Keyed for Contrib {
+    ghost key_of = { contrib_id };
+
+    fn key(&self) -> u32 {
+        self.id
+    }
 }
 
 // What may follow in a batch: the least id, and how many votes and messages are left of the total.
@@ -87,33 +101,55 @@ fn read_user(s: &[u8], at: usize) -> Result<(u64, usize), Refusal>
     }
 }
 
-// The position behind n messages, one after the other.
-fn check_messages(s: &[u8], at: usize, n: u64) -> Result<usize, Refusal>
-    ensures { result ≡ step_of (many (read_signed_key_gen_msg base s.now) n at) }
+// What a contribution holds many of, one behind the other.
+trait Item {
+    ghost Value: { Type 0 };
+
+    ghost read_at: { List ℕ → ℕ → Read Value };
+
+    // The position behind an item, of which nothing is kept.
+    fn pass(s: &[u8], at: usize) -> Result<usize, Refusal>
+        ensures { result ≡ step_of (read_at s.now at) };
+}
+
+// Key-generation messages.
+impl Item for MessageHead {
+    ghost Value = { SignedKeyGenMsgOf };
+
+    ghost read_at = { read_signed_key_gen_msg base };
+
+    fn pass(s: &[u8], at: usize) -> Result<usize, Refusal> {
+        let (_, next) = key_gen_message::read_head(s, at)?;
+        Ok(next)
+    }
+}
+
+// Votes.
+impl Item for VoteHead {
+    ghost Value = { SignedVoteOf };
+
+    ghost read_at = { read_signed_vote base };
+
+    fn pass(s: &[u8], at: usize) -> Result<usize, Refusal> {
+        let (_, next) = votes::read_vote_head(s, at)?;
+        Ok(next)
+    }
+}
+
+// The position behind n items, one after the other.
+fn pass_items<T: Item>(s: &[u8], at: usize, n: u64) -> Result<usize, Refusal>
+    ensures { result ≡ step_of (many (T.read_at s.now) n at) }
 {
     let mut c = at;
     for _ in 0..n {
-        let (_, next) = key_gen_message::read_head(s, c)?;
-        c = next;
+        c = T::pass(s, c)?;
     }
     Ok(c)
 }
 
-// The position behind n votes, one after the other.
-fn check_votes(s: &[u8], at: usize, n: u64) -> Result<usize, Refusal>
-    ensures { result ≡ step_of (many (read_signed_vote base s.now) n at) }
-{
-    let mut c = at;
-    for _ in 0..n {
-        let (_, next) = votes::read_vote_head(s, c)?;
-        c = next;
-    }
-    Ok(c)
-}
-
-// How many messages there are, with the position behind them.
-fn read_messages(s: &[u8], at: usize, left: u64) -> Result<(u64, usize), Refusal>
-    ensures { result ≡ answer length (read_messages base s.now left at) }
+// How many items there are, with the position behind them.
+fn read_items<T: Item>(s: &[u8], at: usize, left: u64) -> Result<(u64, usize), Refusal>
+    ensures { result ≡ answer length (counted (plain (T.read_at s.now)) stay fixed s.now left tt at) }
 {
     let Ok((n, c)) = bincode::read_u64(s, at) else {
         return Err(Refusal::Malformed);
@@ -121,21 +157,7 @@ fn read_messages(s: &[u8], at: usize, left: u64) -> Result<(u64, usize), Refusal
     if left < n {
         return Err(Refusal::TooLarge);
     }
-    let d = check_messages(s, c, n)?;
-    Ok((n, d))
-}
-
-// How many votes there are, with the position behind them.
-fn read_votes(s: &[u8], at: usize, left: u64) -> Result<(u64, usize), Refusal>
-    ensures { result ≡ answer length (read_votes base s.now left at) }
-{
-    let Ok((n, c)) = bincode::read_u64(s, at) else {
-        return Err(Refusal::Malformed);
-    };
-    if left < n {
-        return Err(Refusal::TooLarge);
-    }
-    let d = check_votes(s, c, n)?;
+    let d = pass_items::<T>(s, c, n)?;
     Ok((n, d))
 }
 
@@ -150,8 +172,9 @@ pub fn read_contrib(s: &[u8], at: usize, b: Budget) -> Result<(Contrib, usize), 
         return Err(Refusal::Malformed);
     }
     let (user_count, messages) = read_user(s, c)?;
-    let (message_count, votes) = read_messages(s, messages, b.left)?;
-    let (vote_count, next) = read_votes(s, votes, b.left.saturating_sub(message_count))?;
+    let (message_count, votes) = read_items::<MessageHead>(s, messages, b.left)?;
+    let votes_left = b.left.saturating_sub(message_count);
+    let (vote_count, next) = read_items::<VoteHead>(s, votes, votes_left)?;
     let contrib = Contrib {
         id,
         user: c + 8,
@@ -164,11 +187,10 @@ pub fn read_contrib(s: &[u8], at: usize, b: Budget) -> Result<(Contrib, usize), 
     Ok((contrib, next))
 }
 
-// The contributions of a batch in its order: those below the count.
+// The contributions of a batch in its order.
 #[derive(Clone, Copy)]
 pub struct BatchIndex {
-    pub count: usize,
-    pub contribs: [Contrib; BatchIndex::LIMIT],
+    pub contribs: ArrayList<Contrib, { BatchIndex::LIMIT }>,
 }
 
 impl BatchIndex {
@@ -188,8 +210,7 @@ impl BatchIndex {
             vote_count: 0,
         };
         BatchIndex {
-            count: 0,
-            contribs: [none; BatchIndex::LIMIT],
+            contribs: ArrayList::empty(none),
         }
     }
 
@@ -197,19 +218,14 @@ impl BatchIndex {
     pub fn len(self) -> usize
         ensures { (result ≡ length (contribs_in self)) × (result ≤ base.nodes) }
     {
-        self.count.min(BatchIndex::LIMIT)
+        self.contribs.len()
     }
 
     // Where the user bytes of a node's contribution start and how many they are, if it has one; ids ascend, so it has no other.
     pub fn place_of(self, id: u32) -> Option<(usize, u64)>
         ensures { said_place result ≡ place_in (contribs_in self) id }
     {
-        for c in &self.contribs[..self.len()] {
-            if c.id == id {
-                return Some((c.user, c.user_count));
-            }
-        }
-        None
+        self.contribs.get(id).map(|c| (c.user, c.user_count))
     }
 }
 
@@ -228,7 +244,7 @@ pub fn index_batch(s: &[u8]) -> Result<(BatchIndex, u64), Refusal>
     }
     let count = n as usize;
     let none = BatchIndex::empty();
-    let mut contribs = none.contribs;
+    let mut contribs = none.contribs.items;
     let mut b = Budget::new();
     let mut messages: u64 = 0;
     let mut c = first;
@@ -242,7 +258,11 @@ pub fn index_batch(s: &[u8]) -> Result<(BatchIndex, u64), Refusal>
     if c < s.len() {
         return Err(Refusal::Malformed);
     }
-    Ok((BatchIndex { count, contribs }, messages))
+    let contribs = ArrayList {
+        count,
+        items: contribs,
+    };
+    Ok((BatchIndex { contribs }, messages))
 }
 
 // The number of a batch's key-generation messages, or the batch's refusal.
@@ -258,10 +278,7 @@ pub fn has_contrib(s: &[u8], id: u32) -> Result<bool, Refusal>
     ensures { outcome_as_said (λ (x : Bool). x) result ≡ contributed (read_batch base s.now) id }
 {
     let (index, _) = index_batch(s)?;
-    match index.place_of(id) {
-        Some(_) => Ok(true),
-        None => Ok(false),
-    }
+    Ok(index.place_of(id).is_some())
 }
 
 // A node's user bytes as a part of the batch; without such a contribution, or where reading refuses, the empty part at the end.

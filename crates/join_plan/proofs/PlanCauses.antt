@@ -1,19 +1,13 @@
 -- What refuses a join plan, in every edition and for every size: the causes that `plan_wrong` names, each with its number, and nothing else.
 -- Assumes nothing.
 use Prim.Native.Nat.{ℕ, ◌^◌, ◌<◌}
-use mathlib.Core.Path.{◌≡◌}
 use mathlib.Core.List.{List}
 use lib.Dec.{lit<}
-use Rattle.bincode.specs.Read.{refuse, whole}
-use Rattle.bincode.specs.Numbers.{Edition, fixed}
-use Rattle.bincode.specs.Rows.{row_number, row}
-use Rattle.bincode.specs.Stands.{Bytes}
+use Rattle.bincode.specs.Numbers.{Edition}
 use Rattle.bincode.specs.Sizes.{Sizes}
 use Rattle.bincode.specs.Codes.{NumberCodes}
-use Rattle.bincode.specs.Causes.{NumberWrong, Short, Causes, NumberCauses}
-use Rattle.bincode.proofs.CauseLaws.{field, last, fixed_causes, whole_causes}
-use Rattle.bincode.proofs.CodeLaws.{fixed_codes}
-use Rattle.bincode.proofs.RowLaws.{caused_row}
+use Rattle.bincode.specs.Causes.{NumberWrong, Causes, NumberCauses}
+use Rattle.bincode.proofs.CauseLaws.{field, last}
 use Rattle.pub_key_map.proofs.MapCodes.{map_codes}
 use Rattle.pub_key_map.proofs.MapCauses.{map_causes}
 use Rattle.params.proofs.ParamsCauses.{params_causes}
@@ -21,7 +15,6 @@ use Rattle.change.proofs.ChangeCodes.{state_codes}
 use Rattle.change.proofs.ChangeCauses.{state_causes}
 use Rattle.join_plan.specs.JoinPlan.{read_plan}
 use Rattle.join_plan.specs.PlanCauses.{plan_wrong}
-use Rattle.join_plan.proofs.PlanCodes.{plan_codes}
 
 module _ (e : Edition) (v : NumberWrong) (s : List ℕ) (codes : NumberCodes e s) (num : NumberCauses e v s) (z : Sizes) (fits : z.nodes < 256 ^ 8) where
   pub plan_causes : Causes s (read_plan e z s) (plan_wrong e v s z)

@@ -10,7 +10,7 @@ use Rattle.pub_key_map.specs.declared.Node.{Node}
 use Rattle.pub_key_map.specs.PubKeyMap.{nodes_of, map_held, read_map, map_bytes, MapOk}
 use Rattle.params.specs.declared.Params.{Params}
 use Rattle.params.specs.Params.{read_params, params_bytes, ParamsOk}
-use Rattle.change.specs.Change.{ChangeStateOf, none, state_of, state_held, read_state, state_bytes, StateOk}
+use Rattle.change.specs.Change.{ChangeStateOf, state_of, state_held, read_state, state_bytes, StateOk}
 use Rattle.join_plan.specs.declared.JoinPlan.{JoinPlan}
 
 pub record PlanOf : Type 0 where

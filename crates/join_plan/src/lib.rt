@@ -51,24 +51,20 @@ fn read_at(s: &[u8], at: usize) -> Result<(JoinPlan, usize), Refusal>
 }
 
 // A plan is a whole input: nothing may be left over.
+#[tactic(auto, using(bincode::proofs::AnswerLaws::all_read_whole))]
 pub fn read_plan(s: &[u8]) -> Result<(JoinPlan, usize), Refusal>
     ensures { result ≡ answer plan_held (whole (read_plan fixed base s.now) s.now) }
 {
-    let (plan, c) = read_at(s, 0)?;
-    if c < s.len() {
-        return Err(Refusal::Malformed);
-    }
-    Ok((plan, c))
+    bincode::all_read(s, read_at(s, 0))
 }
 
 // How many bytes a plan takes.
 pub fn plan_size(p: JoinPlan) -> usize
     ensures { (result ≡ length (plan_bytes fixed (plan_of p))) × (result ≤ base.plan) }
 {
-    let change = p.change;
-    let pub_keys = p.pub_keys;
-    let params = p.params;
-    16 + change::state_size(change) + pub_key_map::map_size(pub_keys) + params::params_size(params)
+    16 + change::state_size(p.change)
+        + pub_key_map::map_size(p.pub_keys)
+        + params::params_size(p.params)
 }
 
 // The plan's bytes from the start of a buffer, and how many they are; row 1 where it is shorter than what is lent for a plan. Bytes behind the plan stay as they are.
@@ -79,13 +75,10 @@ pub fn write_plan(buf: &mut [u8], p: JoinPlan) -> Result<usize, Refusal>
         return Err(Refusal::ShortBuffer);
     }
     let size = plan_size(p);
-    let change = p.change;
-    let pub_keys = p.pub_keys;
-    let params = p.params;
     let a = bincode::write_u64(buf, 0, p.era);
-    let b = change::write_state(buf, a, change);
-    let c = pub_key_map::write_map(buf, b, pub_keys);
+    let b = change::write_state(buf, a, p.change);
+    let c = pub_key_map::write_map(buf, b, p.pub_keys);
     let d = bincode::write_u64(buf, c, p.pub_key_set);
-    params::write_params(buf, d, params);
+    params::write_params(buf, d, p.params);
     Ok(size)
 }

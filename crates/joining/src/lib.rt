@@ -4,58 +4,44 @@
 ghost use Rattle.std.specs.Prelude.{◌≡◌};
 ghost use Rattle.bincode.specs.Answer.{outcome_as_said};
 ghost use Rattle.bincode.specs.Sizes.{base};
+ghost use Rattle.change.specs.Change.{state_of};
 ghost use Rattle.join_plan.specs.JoinPlan.{plan_of};
-ghost use Rattle.joining.specs.Starting.{join_checked, join_plan, join_row8, join_row10, start_checked, start_of};
+ghost use Rattle.joining.specs.Starting.{empty_progress, join_checked, join_plan, join_row8, join_row10, start_checked, start_of};
 
 use bincode::Refusal;
-use change::{ChangeKind, Progress};
+use change::{Change, ChangeState};
 use due::DueList;
 use join_plan::JoinPlan;
 use params::Params;
 use pub_key_map::PubKeyMap;
 
+// Whether the map of a change in progress is empty.
+fn has_empty_progress(change: ChangeState) -> bool
+    ensures { result ≡ empty_progress (state_of change) }
+{
+    match change {
+        ChangeState::InProgress(Change::NodeChange(map)) => map.len() == 0,
+        _ => false,
+    }
+}
+
 // Row 8: the plan's map, or its in-progress map, is empty.
 fn has_empty_map(p: JoinPlan) -> bool
     ensures { result ≡ join_row8 (plan_of p) }
 {
-    let keys = p.pub_keys;
-    if keys.len() == 0 {
-        return true;
-    }
-    let state = p.change;
-    let progress = state.progress;
-    let change = state.change;
-    let kind = change.kind;
-    let map = change.map;
-    match progress {
-        Progress::None => false,
-        Progress::Complete => false,
-        Progress::InProgress => match kind {
-            ChangeKind::NodeChange => map.len() == 0,
-            ChangeKind::EncryptionSchedule(_) => false,
-        },
-    }
+    p.pub_keys.len() == 0 || has_empty_progress(p.change)
 }
 
 // Row 10: a complete change differs from the plan.
+#[tactic(auto, using(pub_key_map::proofs::MapLaws::map_eq, honey_badger::proofs::ScheduleLaws::schedule_eq), unfolding(crate::specs::Starting::join_row10))]
 fn has_other_change(p: JoinPlan) -> bool
     ensures { result ≡ join_row10 (plan_of p) }
 {
-    let keys = p.pub_keys;
-    let params = p.params;
-    let current = params.encryption_schedule;
-    let state = p.change;
-    let progress = state.progress;
-    let change = state.change;
-    let kind = change.kind;
-    let map = change.map;
-    match progress {
-        Progress::None => false,
-        Progress::InProgress => false,
-        Progress::Complete => match kind {
-            ChangeKind::NodeChange => !map.same(keys),
-            ChangeKind::EncryptionSchedule(schedule) => schedule != current,
-        },
+    match p.change {
+        ChangeState::Complete(Change::NodeChange(map)) => map != p.pub_keys,
+        ChangeState::Complete(Change::EncryptionSchedule(schedule)) => schedule
+            != p.params.encryption_schedule,
+        _ => false,
     }
 }
 

@@ -1,6 +1,7 @@
 -- Key generation: parts and acks (01, step 5), completeness and readiness (01, step 6).
-use Rattle.std.specs.Prelude.{ℕ, ◌*◌, List, [], Bool, true, false, not, cond, ◌&&◌, length, replicate, ltb, eqb}
-use Rattle.lists.specs.Lists.{Found, found, nothing, lookup, insert, marked, filter}
+use Rattle.std.specs.Prelude.{ℕ, ◌*◌, List, [], Bool, true, false, not, cond, ◌&&◌, length, replicate, ltb, eqb, Some, None}
+use Rattle.std.specs.declared.option.Option.{Option}
+use Rattle.lists.specs.Lists.{Found, found, nothing, lookup, insert, marked, present, filter}
 use Rattle.util.specs.MaxFaulty.{max_faulty}
 use Rattle.bincode.specs.Sizes.{base}
 use Rattle.pub_key_map.specs.declared.Node.{Node}
@@ -156,31 +157,30 @@ enough g = ltb (threshold g) (count_complete g)
 unfoldable pub ready : KeyGenOf → Bool
 ready g = enough g && ltb (2 * node_count g) (3 * count_complete g)
 
--- as code holds it: flags by index; places that are not recorded do not count
+-- as code holds it: flags by index, and a place for the part of each proposer
 abbrev pub indices : List Bool → List ℕ
 indices = marked (λ b. b) (λ i b. i) 0
 
 abbrev pub proposal_at : ℕ → Proposal → ProposalOf
 proposal_at i p = record { proposer = i; commit = p.commit; acks = indices p.acks; good = indices p.good }
 
-abbrev pub is_recorded : Proposal → Bool
-is_recorded p = p.recorded
-
-abbrev pub parts_of : List Proposal → List ProposalOf
-parts_of = marked is_recorded proposal_at 0
+abbrev pub parts_of : List (Option Proposal) → List ProposalOf
+parts_of = present proposal_at 0
 
 abbrev pub key_gen_of : KeyGen → KeyGenOf
 key_gen_of g = record { our_id = g.our_id; nodes = nodes_of g.pub_keys; parts = parts_of g.proposals }
 
--- the part at a place is recorded and complete
-unfoldable pub complete_at : ℕ → Proposal → Bool
-complete_at t p = cond p.recorded (ltb (2 * t) (length (indices p.acks))) false
+-- a complete part stands at a place
+abbrev pub complete_in : ℕ → Option Proposal → Bool
+complete_in t (Some p) = complete t (proposal_at 0 p)
+complete_in t None = false
 
-abbrev pub no_proposal : Proposal
-no_proposal = record { recorded = false; commit = 0; acks = replicate base.nodes false; good = replicate base.nodes false }
+-- a part that nobody has acknowledged
+abbrev pub new_proposal : ℕ → Proposal
+new_proposal commit = record { commit = commit; acks = replicate base.nodes false; good = replicate base.nodes false }
 
 abbrev pub fresh_held : ℕ → PubKeyMap → KeyGen
-fresh_held id m = record { our_id = id; pub_keys = m; proposals = replicate base.nodes no_proposal }
+fresh_held id m = record { our_id = id; pub_keys = m; proposals = replicate base.nodes None }
 
 abbrev pub said_outcome : KeyOutcome → Effect
 said_outcome outcome.Quiet = quiet

@@ -1,24 +1,23 @@
 // sync_key_gen.rs: `SyncKeyGen`, the tracking of parts and acks.
 #![tactic(auto)]
 
-ghost use Rattle.std.specs.Prelude.{◌≡◌, true, not, ℕ, ◌≤◌, ◌<◌, length};
-ghost use Rattle.lists.specs.Lists.{found, lookup};
+ghost use Rattle.std.specs.Prelude.{◌≡◌, not, ℕ, ◌≤◌, ◌<◌, [], length};
+ghost use Rattle.lists.specs.Lists.{lookup};
 ghost use Rattle.bincode.specs.Sizes.{base};
 ghost use Rattle.util.specs.MaxFaulty.{max_faulty};
 ghost use Rattle.network_info.specs.NetworkInfo.{is_member};
 ghost use Rattle.pub_key_map.specs.PubKeyMap.{nodes_of};
-ghost use Rattle.sync_key_gen.specs.SyncKeyGen.{part_of, ack_of};
-ghost use Rattle.key_gen.specs.KeyGen.{ProposalOf, indices, proposal_at, by_proposer, handled, acked, record_part, record_ack, ack_of_index, key_gen_of};
-ghost use Rattle.key_gen.specs.KeyGen.{fresh_held, no_proposal, complete_at, row_effect, value_effect, handle_part, handle_ack, count_complete, node_ready, enough, ready, said_outcome};
+ghost use Rattle.sync_key_gen.specs.SyncKeyGen.{PartOf, AckOf, part_of, ack_of};
+ghost use Rattle.key_gen.specs.KeyGen.{indices, proposal_at, by_proposer, handled, acked, part_of_index, ack_of_index, key_gen_of, complete, complete_in};
+ghost use Rattle.key_gen.specs.KeyGen.{fresh_held, new_proposal, row_effect, value_effect, handle_part, handle_ack, count_complete, node_ready, enough, ready, said_outcome};
 
 use fault_log::{AckFault, FaultKind, PartFault};
 use pub_key_map::PubKeyMap;
 use sync_key_gen::{Ack, Part};
 
-// What is kept of one proposer, at its index: whether its part is recorded, the commitment, who acknowledged, whose value was good.
+// What is kept of one proposer's part, at its index: the commitment, who acknowledged, whose value was good.
 #[derive(Clone, Copy)]
 pub struct Proposal {
-    pub recorded: bool,
     pub commit: u64,
     pub acks: [bool; PubKeyMap::LIMIT],
     pub good: [bool; PubKeyMap::LIMIT],
@@ -32,28 +31,28 @@ pub fn count_marked(flags: [bool; PubKeyMap::LIMIT]) -> usize
 }
 
 impl Proposal {
-    pub fn empty() -> Self
-        ensures { result ≡ no_proposal }
+    // A part that nobody has acknowledged yet.
+    pub fn new(commit: u64) -> Self
+        ensures { result ≡ new_proposal commit }
     {
         Proposal {
-            recorded: false,
-            commit: 0,
+            commit,
             acks: [false; PubKeyMap::LIMIT],
             good: [false; PubKeyMap::LIMIT],
         }
     }
 
-    // Whether its part is recorded and complete: more than twice the threshold have acknowledged.
+    // Whether it is complete: more than twice the threshold have acknowledged.
     pub fn is_complete(self, threshold: usize) -> bool
-        ensures { result ≡ complete_at threshold self }
+        ensures { (i : ℕ) → result ≡ complete threshold (proposal_at i self) }
     {
-        self.recorded && threshold.saturating_mul(2) < count_marked(self.acks)
+        threshold.saturating_mul(2) < count_marked(self.acks)
     }
 
     // An acknowledgement of the node with index j, with a good value or without.
     fn acknowledge(mut self, j: usize, good: bool) -> Self
         requires { j < base.nodes }
-        ensures { ((i : ℕ) → proposal_at i result ≡ acked (proposal_at i self) j good) × (result.recorded ≡ self.recorded) }
+        ensures { (i : ℕ) → proposal_at i result ≡ acked (proposal_at i self) j good }
     {
         self.acks[j] = true;
         if good {
@@ -63,11 +62,22 @@ impl Proposal {
     }
 }
 
+// Whether a complete part stands at a place.
+fn is_complete_in(place: Option<Proposal>, threshold: usize) -> bool
+    ensures { result ≡ complete_in threshold place }
+{
+    match place {
+        Some(p) => p.is_complete(threshold),
+        None => false,
+    }
+}
+
+// The places of the proposers' parts, by ascending index.
 #[derive(Clone, Copy)]
 pub struct KeyGen {
     pub our_id: u32,
     pub pub_keys: PubKeyMap,
-    pub proposals: [Proposal; PubKeyMap::LIMIT],
+    pub proposals: [Option<Proposal>; PubKeyMap::LIMIT],
 }
 
 // What a key message did: nothing to tell, an ack is due for a proposer, or a fault of the signer.
@@ -88,32 +98,26 @@ pub struct KeyHandled {
 pub fn row_outcome(i: usize, verdict: u8) -> KeyOutcome
     ensures { said_outcome result ≡ row_effect i verdict }
 {
-    if verdict == 0 {
-        return KeyOutcome::AckDue(i);
-    }
-    if verdict == 1 {
-        return KeyOutcome::Faulty(FaultKind::SyncKeyGenPart(PartFault::DecryptRow));
-    }
-    if verdict == 2 {
-        return KeyOutcome::Faulty(FaultKind::SyncKeyGenPart(PartFault::DeserializeRow));
-    }
-    KeyOutcome::Faulty(FaultKind::SyncKeyGenPart(PartFault::RowCommitment))
+    let fault = match verdict {
+        0 => return KeyOutcome::AckDue(i),
+        1 => PartFault::DecryptRow,
+        2 => PartFault::DeserializeRow,
+        _ => PartFault::RowCommitment,
+    };
+    KeyOutcome::Faulty(FaultKind::SyncKeyGenPart(fault))
 }
 
 // The verdict on the own value of an ack.
 pub fn value_outcome(verdict: u8) -> KeyOutcome
     ensures { said_outcome result ≡ value_effect verdict }
 {
-    if verdict == 0 {
-        return KeyOutcome::Quiet;
-    }
-    if verdict == 1 {
-        return KeyOutcome::Faulty(FaultKind::SyncKeyGenAck(AckFault::DecryptValue));
-    }
-    if verdict == 2 {
-        return KeyOutcome::Faulty(FaultKind::SyncKeyGenAck(AckFault::DeserializeValue));
-    }
-    KeyOutcome::Faulty(FaultKind::SyncKeyGenAck(AckFault::ValueCommitment))
+    let fault = match verdict {
+        0 => return KeyOutcome::Quiet,
+        1 => AckFault::DecryptValue,
+        2 => AckFault::DeserializeValue,
+        _ => AckFault::ValueCommitment,
+    };
+    KeyOutcome::Faulty(FaultKind::SyncKeyGenAck(fault))
 }
 
 impl KeyGen {
@@ -124,7 +128,7 @@ impl KeyGen {
         KeyGen {
             our_id,
             pub_keys,
-            proposals: [Proposal::empty(); PubKeyMap::LIMIT],
+            proposals: [None; PubKeyMap::LIMIT],
         }
     }
 
@@ -147,7 +151,10 @@ impl KeyGen {
         ensures { (result ≡ count_complete (key_gen_of self)) × (result ≤ base.nodes) }
     {
         let t = self.threshold();
-        self.proposals.iter().filter(|p| p.is_complete(t)).count()
+        self.proposals
+            .iter()
+            .filter(|p| is_complete_in(**p, t))
+            .count()
     }
 
     // Whether the node's own part is complete.
@@ -155,11 +162,10 @@ impl KeyGen {
         ensures { result ≡ node_ready (key_gen_of self) proposer }
     {
         let t = self.threshold();
-        let Some(i) = network_info::node_index(self.pub_keys, proposer) else {
-            return false;
-        };
-        let p = self.proposals[i];
-        p.is_complete(t)
+        match network_info::node_index(self.pub_keys, proposer) {
+            Some(i) => is_complete_in(self.proposals[i], t),
+            None => false,
+        }
     }
 
     // `SyncKeyGen::is_ready`: more than t parts are complete.
@@ -177,131 +183,103 @@ impl KeyGen {
         self.is_enough() && 2 * map.len() < 3 * self.count_complete()
     }
 
-    // A part of the node with index i that was not recorded: it is, before its verdict is looked at.
-    fn record_part(mut self, i: usize, commit: u64, verdict: u8) -> KeyHandled
+    // A part of the node with index i: recorded before its verdict is looked at; once it is, the same one again is nothing.
+    fn part_of_index(&mut self, i: usize, commit: u64, verdict: u8) -> KeyOutcome
         requires { i < base.nodes }
-        ensures { handled (key_gen_of result.key_gen) (said_outcome result.outcome) ≡ record_part (key_gen_of self) i commit verdict }
+        ensures { handled (key_gen_of self.new) (said_outcome result) ≡ part_of_index (key_gen_of self.old) i (record { commit = commit; rows = [] }) verdict (lookup by_proposer (key_gen_of self.old).parts i) }
     {
-        let observes = self.observes();
-        let mut p = Proposal::empty();
-        p.recorded = true;
-        p.commit = commit;
-        self.proposals[i] = p;
-        if observes {
-            return KeyHandled {
-                key_gen: self,
-                outcome: KeyOutcome::Quiet,
-            };
-        }
-        KeyHandled {
-            key_gen: self,
-            outcome: row_outcome(i, verdict),
+        match self.proposals[i] {
+            Some(p) if p.commit == commit => KeyOutcome::Quiet,
+            Some(_) => KeyOutcome::Faulty(FaultKind::SyncKeyGenPart(PartFault::MultipleParts)),
+            None => {
+                self.proposals[i] = Some(Proposal::new(commit));
+                if self.observes() {
+                    KeyOutcome::Quiet
+                } else {
+                    row_outcome(i, verdict)
+                }
+            }
         }
     }
 
-    // A part signed by a node; one of a node that is not in the map is a fault, whatever else it holds.
-    pub fn handle_part(self, signer: u32, part: Part, verdict: u8) -> KeyHandled
+    // A part signed by a node, by its commitment and how many rows it has; one of a node that is not in the map is a fault, whatever else it holds.
+    pub fn handle_part_counted(
+        &mut self,
+        signer: u32,
+        commit: u64,
+        rows: u64,
+        verdict: u8,
+    ) -> KeyOutcome
+        ensures { (p : PartOf) → p.commit ≡ commit → length p.rows ≡ rows → handled (key_gen_of self.new) (said_outcome result) ≡ handle_part (key_gen_of self.old) signer p verdict }
+    {
+        let complete = rows == self.pub_keys.len() as u64;
+        match network_info::node_index(self.pub_keys, signer) {
+            Some(i) if complete => self.part_of_index(i, commit, verdict),
+            Some(_) => KeyOutcome::Faulty(FaultKind::SyncKeyGenPart(PartFault::RowCount)),
+            None => KeyOutcome::Faulty(FaultKind::UnexpectedKeyGenPart),
+        }
+    }
+
+    // The same of a whole part.
+    pub fn handle_part(mut self, signer: u32, part: Part, verdict: u8) -> KeyHandled
         ensures { handled (key_gen_of result.key_gen) (said_outcome result.outcome) ≡ handle_part (key_gen_of self) signer (part_of part) verdict }
     {
-        let map = self.pub_keys;
-        let Some(i) = network_info::node_index(map, signer) else {
-            return KeyHandled {
-                key_gen: self,
-                outcome: KeyOutcome::Faulty(FaultKind::UnexpectedKeyGenPart),
-            };
-        };
         let rows = part.rows;
-        if rows.len() != map.len() {
-            return KeyHandled {
-                key_gen: self,
-                outcome: KeyOutcome::Faulty(FaultKind::SyncKeyGenPart(PartFault::RowCount)),
-            };
-        }
-        let p = self.proposals[i];
-        if p.recorded {
-            if p.commit == part.commit {
-                return KeyHandled {
-                    key_gen: self,
-                    outcome: KeyOutcome::Quiet,
-                };
-            }
-            return KeyHandled {
-                key_gen: self,
-                outcome: KeyOutcome::Faulty(FaultKind::SyncKeyGenPart(PartFault::MultipleParts)),
-            };
-        }
-        self.record_part(i, part.commit, verdict)
-    }
-
-    // A new ack of the node with index j for the recorded part of the proposer with index i: it counts before its verdict.
-    fn record_ack(mut self, i: usize, j: usize, verdict: u8) -> KeyHandled
-        requires { (i < base.nodes) × (j < base.nodes) }
-        ensures { (q : ProposalOf) → lookup by_proposer (key_gen_of self).parts i ≡ found q
-            → handled (key_gen_of result.key_gen) (said_outcome result.outcome) ≡ record_ack (key_gen_of self) q j verdict }
-    {
-        let observes = self.observes();
-        let p = self.proposals[i];
-        if observes {
-            let q = p.acknowledge(j, false);
-            self.proposals[i] = q;
-            return KeyHandled {
-                key_gen: self,
-                outcome: KeyOutcome::Quiet,
-            };
-        }
-        let q = p.acknowledge(j, verdict == 0);
-        self.proposals[i] = q;
+        let outcome = self.handle_part_counted(signer, part.commit, rows.len() as u64, verdict);
         KeyHandled {
             key_gen: self,
-            outcome: value_outcome(verdict),
+            outcome,
         }
     }
 
-    // An ack signed by a node, likewise. Its proposer index is any number; one without a recorded part is missing.
-    pub fn handle_ack(self, signer: u32, ack: Ack, verdict: u8) -> KeyHandled
+    // An ack of the node with index j for the part of the proposer with index i: a new one counts before its verdict, a repeated one is nothing; without a recorded part it is missing.
+    fn ack_of_index(&mut self, i: usize, j: usize, verdict: u8) -> KeyOutcome
+        requires { j < base.nodes }
+        ensures { handled (key_gen_of self.new) (said_outcome result) ≡ ack_of_index (key_gen_of self.old) j verdict (lookup by_proposer (key_gen_of self.old).parts i) }
+    {
+        match self.proposals.get(i) {
+            Some(Some(p)) if p.acks[j] => KeyOutcome::Quiet,
+            Some(Some(p)) if self.observes() => {
+                self.proposals[i] = Some(p.acknowledge(j, false));
+                KeyOutcome::Quiet
+            }
+            Some(Some(p)) => {
+                self.proposals[i] = Some(p.acknowledge(j, verdict == 0));
+                value_outcome(verdict)
+            }
+            Some(None) | None => KeyOutcome::Faulty(FaultKind::SyncKeyGenAck(
+                AckFault::MissingPart,
+            )),
+        }
+    }
+
+    // An ack signed by a node, likewise, by its proposer index, which is any number, and how many values it has.
+    pub fn handle_ack_counted(
+        &mut self,
+        signer: u32,
+        proposer: u64,
+        values: u64,
+        verdict: u8,
+    ) -> KeyOutcome
+        ensures { (a : AckOf) → a.proposer ≡ proposer → length a.values ≡ values → handled (key_gen_of self.new) (said_outcome result) ≡ handle_ack (key_gen_of self.old) signer a verdict }
+    {
+        let complete = values == self.pub_keys.len() as u64;
+        match network_info::node_index(self.pub_keys, signer) {
+            Some(j) if complete => self.ack_of_index(proposer as usize, j, verdict),
+            Some(_) => KeyOutcome::Faulty(FaultKind::SyncKeyGenAck(AckFault::ValueCount)),
+            None => KeyOutcome::Faulty(FaultKind::UnexpectedKeyGenAck),
+        }
+    }
+
+    // The same of a whole ack.
+    pub fn handle_ack(mut self, signer: u32, ack: Ack, verdict: u8) -> KeyHandled
         ensures { handled (key_gen_of result.key_gen) (said_outcome result.outcome) ≡ handle_ack (key_gen_of self) signer (ack_of ack) verdict }
     {
-        let map = self.pub_keys;
-        let Some(j) = network_info::node_index(map, signer) else {
-            return KeyHandled {
-                key_gen: self,
-                outcome: KeyOutcome::Faulty(FaultKind::UnexpectedKeyGenAck),
-            };
-        };
         let values = ack.values;
-        if values.len() != map.len() {
-            return KeyHandled {
-                key_gen: self,
-                outcome: KeyOutcome::Faulty(FaultKind::SyncKeyGenAck(AckFault::ValueCount)),
-            };
-        }
-        if ack.proposer < PubKeyMap::LIMIT as u64 {
-            return self.ack_at(ack.proposer as usize, j, verdict);
-        }
+        let outcome = self.handle_ack_counted(signer, ack.proposer, values.len() as u64, verdict);
         KeyHandled {
             key_gen: self,
-            outcome: KeyOutcome::Faulty(FaultKind::SyncKeyGenAck(AckFault::MissingPart)),
-        }
-    }
-
-    // An ack for the part of the proposer with index i.
-    fn ack_at(self, i: usize, j: usize, verdict: u8) -> KeyHandled
-        requires { (i < base.nodes) × (j < base.nodes) }
-        ensures { handled (key_gen_of result.key_gen) (said_outcome result.outcome) ≡ ack_of_index (key_gen_of self) j verdict (lookup by_proposer (key_gen_of self).parts i) }
-    {
-        let p = self.proposals[i];
-        if p.recorded {
-            if p.acks[j] {
-                return KeyHandled {
-                    key_gen: self,
-                    outcome: KeyOutcome::Quiet,
-                };
-            }
-            return self.record_ack(i, j, verdict);
-        }
-        KeyHandled {
-            key_gen: self,
-            outcome: KeyOutcome::Faulty(FaultKind::SyncKeyGenAck(AckFault::MissingPart)),
+            outcome,
         }
     }
 }

@@ -5,7 +5,7 @@ use mathlib.Core.Path.{◌≡◌, refl, sym, ap}
 use mathlib.Core.List.{List, [], ◌∷◌}
 use mathlib.Core.Bool.{Bool, true, false}
 use native.Mathlib.Omega.{arith}
-use lib.Dec.{ltb, eqb}
+use lib.Dec.{ltb}
 use borrow.Author.Tests.{ltb-true, ltb-false, lt-ltb, le-ltb, ne_eqb}
 use Rattle.bincode.proofs.ReadLaws.{map_refused, answer_ok, answer_err}
 use lib.ListN.{length, take, drop}
@@ -22,7 +22,14 @@ use Rattle.bincode.specs.Sizes.{Sizes}
 use Rattle.sync_key_gen.specs.SyncKeyGen.{read_handles, read_part, read_ack}
 use Rattle.key_gen_message.specs.KeyGenMessage.{read_key_gen_message}
 use Rattle.key_gen_message.specs.declared.Body.{Body}
+use Rattle.key_gen_message.specs.declared.KeyGenKind.{KeyGenKind}
+use Rattle.key_gen_message.specs.declared.KeyGenKind.TheVariants.{Part, Ack}
 use Rattle.key_gen_message.specs.Head.{body_of}
+
+-- a tag names a kind
+pub data Named (tag : ℕ) (k : KeyGenKind) : Type 0 where
+  is_part : tag ≡ 0 → k ≡ Part → Named tag k
+  is_ack : tag ≡ 1 → k ≡ Ack → Named tag k
 
 -- a run of numbers is skipped where it has room, and refused where it has none
 skip_run : (s : List ℕ) (n at d : ℕ) → d ≡ at + 8 * n → d ≤ length s → map_read length (many (read_num 8 s) n at) ≡ value n d
@@ -80,25 +87,22 @@ module _ (z : Sizes) (s : List ℕ) (at tag c : ℕ) (e : read_num 4 s at ≡ va
 
 -- a part or an ack
 module _ (z : Sizes) (s : List ℕ) (at c : ℕ) where
-  pub body_first : (tag : ℕ) → read_num 4 s at ≡ value tag c → tag ≤ 1 → read_num 8 s c ≡ refuse 2 → Err Malformed ≡ answer body_of (read_key_gen_message z s at)
+  pub body_first : {tag : ℕ} {k : KeyGenKind} → Named tag k → read_num 4 s at ≡ value tag c → read_num 8 s c ≡ refuse 2 → Err Malformed ≡ answer body_of (read_key_gen_message z s at)
   unfolding read_key_gen_message read_part read_ack
-  body_first zero e h f = rw (e, f)
-  body_first (suc zero) e h f = rw (e, f)
-  body_first (suc (suc t)) e h f = absurd (let y : ⊥ = omega arith in y)
+  body_first (is_part t q) e f = rw (e, t, f)
+  body_first (is_ack t q) e f = rw (e, t, f)
 
   module _ (first d : ℕ) (f : read_num 8 s c ≡ value first d) where
-    headed : (p : Bool) {n m b : ℕ} → n ≡ m → ◌≡◌ {A = Result (Body × ℕ) Refusal} (Ok (record { part = p; first = first; count = n }, b)) (Ok (record { part = p; first = first; count = m }, b))
-    headed p {b = b} q = ap (λ (k : ℕ). Ok (record { part = p; first = first; count = k }, b)) q
+    headed : (k : KeyGenKind) {n m b : ℕ} → n ≡ m → ◌≡◌ {A = Result (Body × ℕ) Refusal} (Ok (record { kind = k; first = first; count = n }, b)) (Ok (record { kind = k; first = first; count = m }, b))
+    headed k {b = b} q = ap (λ (i : ℕ). Ok (record { kind = k; first = first; count = i }, b)) q
 
-    pub body_refused : (tag : ℕ) → read_num 4 s at ≡ value tag c → tag ≤ 1 → (r : Refusal) → answer length (read_handles z s d) ≡ Err r → Err r ≡ answer body_of (read_key_gen_message z s at)
+    pub body_refused : {tag : ℕ} {k : KeyGenKind} → Named tag k → read_num 4 s at ≡ value tag c → (r : Refusal) → answer length (read_handles z s d) ≡ Err r → Err r ≡ answer body_of (read_key_gen_message z s at)
     unfolding read_key_gen_message read_part read_ack
-    body_refused zero e h r g = let u = answer_err length (read_handles z s d) r g in rw (e, f, u.1) (ap Err u.2)
-    body_refused (suc zero) e h r g = let u = answer_err length (read_handles z s d) r g in rw (e, f, u.1) (ap Err u.2)
-    body_refused (suc (suc t)) e h r g = absurd (let y : ⊥ = omega arith in y)
+    body_refused (is_part t q) e r g = let u = answer_err length (read_handles z s d) r g in rw (e, t, f, u.1) (ap Err u.2)
+    body_refused (is_ack t q) e r g = let u = answer_err length (read_handles z s d) r g in rw (e, t, f, u.1) (ap Err u.2)
 
-    pub body_whole : (tag : ℕ) → read_num 4 s at ≡ value tag c → tag ≤ 1 → (n b : ℕ) → answer length (read_handles z s d) ≡ Ok (n, b)
-        → Ok (record { part = eqb tag 0; first = first; count = n }, b) ≡ answer body_of (read_key_gen_message z s at)
+    pub body_whole : {tag : ℕ} {k : KeyGenKind} → Named tag k → read_num 4 s at ≡ value tag c → (n b : ℕ) → answer length (read_handles z s d) ≡ Ok (n, b)
+        → Ok (record { kind = k; first = first; count = n }, b) ≡ answer body_of (read_key_gen_message z s at)
     unfolding read_key_gen_message read_part read_ack
-    body_whole zero e h n b g = let u = answer_ok length (read_handles z s d) n b g in rw (e, f, u.1) (headed true u.2)
-    body_whole (suc zero) e h n b g = let u = answer_ok length (read_handles z s d) n b g in rw (e, f, u.1) (headed false u.2)
-    body_whole (suc (suc t)) e h n b g = absurd (let y : ⊥ = omega arith in y)
+    body_whole (is_part t q) e n b g = let u = answer_ok length (read_handles z s d) n b g in rw (e, t, q, f, u.1) (headed Part u.2)
+    body_whole (is_ack t q) e n b g = let u = answer_ok length (read_handles z s d) n b g in rw (e, t, q, f, u.1) (headed Ack u.2)

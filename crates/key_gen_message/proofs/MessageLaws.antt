@@ -1,22 +1,26 @@
 -- Laws of key-generation messages: what a struct holds, lengths in bytes, and equality.
 -- Assumes nothing.
 use Prim.Native.Nat.{ℕ, ◌+◌}
-use mathlib.Core.Path.{◌≡◌, refl, ap}
-use mathlib.Core.List.{List}
-use mathlib.Core.Bool.{true}
+use mathlib.Core.Path.{◌≡◌, refl, ap, ◌∙◌}
+use mathlib.Core.List.{List, [], ◌∷◌, append-nil}
+use mathlib.Core.Bool.{Bool, true, false, ◌&&◌}
 use native.Mathlib.Omega.{arith}
 use lib.Dec.{eqb}
 use lib.ListN.{length, length-append}
 use borrow.Author.Tests.{eq-eqb, eqb-true}
 use Rattle.bincode.specs.Sizes.{base}
+use Rattle.bincode.specs.Numbers.{bytes_of}
+use Rattle.bincode.specs.Stands.{concat}
 use Rattle.bincode.proofs.NumberLaws.{length_bytes_of}
 use Rattle.lists.proofs.ListLaws.{false_true, and_both, take_padded}
-use Rattle.sync_key_gen.specs.declared.Handles.{Handles}
-use Rattle.sync_key_gen.specs.SyncKeyGen.{handles_of, handles_bytes, same_handles}
-use Rattle.sync_key_gen.proofs.KeyGenLaws.{handles_true, handles_refl}
-use Rattle.key_gen_message.specs.declared.KeyGenKind.{KeyGenKind}
-use Rattle.key_gen_message.specs.declared.KeyGenKind.TheVariants.{Part, Ack}
-use Rattle.key_gen_message.specs.KeyGenMessage.{KeyGenMessageOf, part, ack, message_of, message_held, SignedKeyGenMsgOf, signed_of, signed_held, message_of_kind, same_headed, same_message, same_signed, tagged_bytes, message_bytes, signed_bytes}
+use Rattle.sync_key_gen.specs.SyncKeyGen.{PartOf, AckOf, part_bytes, ack_bytes, handles_bytes, same_handles}
+use Rattle.sync_key_gen.proofs.KeyGenLaws.{handles_true, handles_refl, handles_eq}
+use Rattle.key_gen_message.specs.declared.KeyGenMessage.{KeyGenMessage}
+use Rattle.key_gen_message.specs.declared.KeyGenMessage.TheVariants.{Part, Ack}
+use Rattle.key_gen_message.specs.declared.SignedKeyGenMsg.{SignedKeyGenMsg}
+use Rattle.key_gen_message.specs.contracts.KeyGenMessagePartialEq.TheImpl as message
+use Rattle.key_gen_message.specs.contracts.SignedKeyGenMsgPartialEq.TheImpl as signed
+use Rattle.key_gen_message.specs.KeyGenMessage.{KeyGenMessageOf, part, ack, message_of, message_held, SignedKeyGenMsgOf, signed_of, signed_held, same_headed, same_message, same_signed, tagged_bytes, message_bytes, signed_bytes}
 
 -- a struct that holds what was read stands for it
 pub held_message : (m : KeyGenMessageOf) → message_of (message_held m) ≡ m
@@ -31,13 +35,18 @@ abbrev pub handles_in : KeyGenMessageOf → List ℕ
 handles_in (part p) = p.rows
 handles_in (ack a) = a.values
 
-pub handles_in_lem : (k : KeyGenKind) (h : Handles) → handles_in (message_of_kind k h) ≡ handles_of h
-handles_in_lem (Part commit) h = refl
-handles_in_lem (Ack proposer) h = refl
-
 pub length_tagged : (tag head : ℕ) (xs : List ℕ) → length (tagged_bytes tag head xs) ≡ 12 + length (handles_bytes xs)
 unfolding tagged_bytes
 length_tagged tag head xs = simp (length-append, length_bytes_of) (omega arith)
+
+-- a part, or an ack, behind its tag
+pub tagged_part : (tag : ℕ) (p : PartOf) → concat (bytes_of 4 tag ∷ part_bytes p ∷ []) ≡ tagged_bytes tag p.commit p.rows
+unfolding tagged_bytes part_bytes
+tagged_part tag p = simp append-nil
+
+pub tagged_ack : (tag : ℕ) (a : AckOf) → concat (bytes_of 4 tag ∷ ack_bytes a ∷ []) ≡ tagged_bytes tag a.proposer a.values
+unfolding tagged_bytes ack_bytes
+tagged_ack tag a = simp append-nil
 
 pub length_message : (m : KeyGenMessageOf) → length (message_bytes m) ≡ 12 + length (handles_bytes (handles_in m))
 unfolding message_bytes
@@ -88,3 +97,23 @@ signed_true a b e =
 pub signed_refl : (a : SignedKeyGenMsgOf) → same_signed a a ≡ true
 unfolding same_signed
 signed_refl a = rw (eq-eqb a.era a.era refl, eq-eqb a.id a.id refl, eq-eqb a.sig a.sig refl) (message_refl a.message)
+
+-- and `==` is what the definitions call the same
+pub message_eq : (a b : KeyGenMessage) → (message.eq-value).it a b ≡ same_message (message_of a) (message_of b)
+unfolding same_message same_headed
+message_eq (Part p) (Part q) = ap (λ (e : Bool). eqb p.commit q.commit && e) (handles_eq p.rows q.rows)
+message_eq (Part p) (Ack b) = refl
+message_eq (Ack a) (Part q) = refl
+message_eq (Ack a) (Ack b) = ap (λ (e : Bool). eqb a.proposer b.proposer && e) (handles_eq a.values b.values)
+
+and_turned : (a b : Bool) → a && b ≡ b && a
+and_turned true true = refl
+and_turned true false = refl
+and_turned false true = refl
+and_turned false false = refl
+
+pub signed_eq : (a b : SignedKeyGenMsg) → (signed.eq-value).it a b ≡ same_signed (signed_of a) (signed_of b)
+unfolding same_signed
+signed_eq a b =
+    ap (λ (e : Bool). eqb a.era b.era && (eqb a.id b.id && e))
+    (ap (λ (e : Bool). e && eqb a.sig b.sig) (message_eq a.message b.message) ∙ and_turned (same_message (message_of a.message) (message_of b.message)) (eqb a.sig b.sig))

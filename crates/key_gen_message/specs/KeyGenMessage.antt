@@ -4,11 +4,9 @@ use Rattle.bincode.specs.Read.{Read, value, refuse, bind}
 use Rattle.bincode.specs.Numbers.{read_num, bytes_of}
 use Rattle.bincode.specs.Sizes.{Sizes}
 use Rattle.bincode.specs.Stands.{concat}
-use Rattle.sync_key_gen.specs.declared.Handles.{Handles}
-use Rattle.sync_key_gen.specs.SyncKeyGen.{PartOf, AckOf, handles_of, handles_held, same_handles, handles_bytes, read_part, read_ack, no_part, PartOk, AckOk}
-use Rattle.key_gen_message.specs.declared.KeyGenKind.{KeyGenKind}
-use Rattle.key_gen_message.specs.declared.KeyGenKind.TheVariants.{Part, Ack}
+use Rattle.sync_key_gen.specs.SyncKeyGen.{PartOf, AckOf, part_of, ack_of, part_held, ack_held, same_handles, handles_bytes, read_part, read_ack, no_part, PartOk, AckOk}
 use Rattle.key_gen_message.specs.declared.KeyGenMessage.{KeyGenMessage}
+use Rattle.key_gen_message.specs.declared.KeyGenMessage.TheVariants.{Part, Ack}
 use Rattle.key_gen_message.specs.declared.SignedKeyGenMsg.{SignedKeyGenMsg}
 
 pub data KeyGenMessageOf : Type 0 where
@@ -22,16 +20,13 @@ pub record SignedKeyGenMsgOf : Type 0 where
   pub sig : ℕ
 
 -- as code holds them
-abbrev pub message_of_kind : KeyGenKind → Handles → KeyGenMessageOf
-message_of_kind (Part commit) h = part (record { commit = commit; rows = handles_of h })
-message_of_kind (Ack proposer) h = ack (record { proposer = proposer; values = handles_of h })
-
 abbrev pub message_of : KeyGenMessage → KeyGenMessageOf
-message_of m = message_of_kind m.kind m.handles
+message_of (Part p) = part (part_of p)
+message_of (Ack a) = ack (ack_of a)
 
 abbrev pub message_held : KeyGenMessageOf → KeyGenMessage
-message_held (part p) = record { kind = Part p.commit; handles = handles_held p.rows }
-message_held (ack a) = record { kind = Ack a.proposer; handles = handles_held a.values }
+message_held (part p) = Part (part_held p)
+message_held (ack a) = Ack (ack_held a)
 
 abbrev pub signed_of : SignedKeyGenMsg → SignedKeyGenMsgOf
 signed_of x = record { era = x.era; id = x.id; message = message_of x.message; sig = x.sig }

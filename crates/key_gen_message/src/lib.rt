@@ -5,87 +5,55 @@ ghost use Rattle.std.specs.Prelude.{◌≡◌, ◌+◌, ◌*◌, ◌≤◌, leng
 ghost use Rattle.bincode.specs.Answer.{answer};
 ghost use Rattle.bincode.specs.Sizes.{base};
 ghost use Rattle.bincode.specs.Writing.{written, written_to};
-ghost use Rattle.sync_key_gen.specs.SyncKeyGen.{part_of, ack_of, handles_of, read_handles};
+ghost use Rattle.sync_key_gen.specs.SyncKeyGen.{part_of, ack_of, read_handles};
 ghost use Rattle.key_gen_message.specs.Head.{body_of, head_of};
-ghost use Rattle.key_gen_message.specs.KeyGenMessage.{part, ack, message_of, message_held, no_message, same_headed, same_message, read_key_gen_message};
-ghost use Rattle.key_gen_message.specs.KeyGenMessage.{tagged_bytes, message_bytes, signed_of, signed_held, no_signed, same_signed, read_signed_key_gen_msg, signed_bytes};
+ghost use Rattle.key_gen_message.specs.KeyGenMessage.{part, ack, message_of, message_held, no_message, same_message, read_key_gen_message};
+ghost use Rattle.key_gen_message.specs.KeyGenMessage.{message_bytes, signed_of, signed_held, no_signed, same_signed, read_signed_key_gen_msg, signed_bytes};
 
 use bincode::Refusal;
 use sync_key_gen::{Ack, Handles, Part};
 
-// A part with its commitment, or an ack with its proposer's index.
-#[derive(Clone, Copy)]
-pub enum KeyGenKind {
-    Part(u64),
-    Ack(u64),
-}
-
-// The rows or values stand beside the kind.
-#[derive(Clone, Copy)]
-pub struct KeyGenMessage {
-    pub kind: KeyGenKind,
-    pub handles: Handles,
+// A proposer's part, or an ack of one.
+#[derive(Clone, Copy, PartialEq)]
+pub enum KeyGenMessage {
+    Part(Part),
+    Ack(Ack),
 }
 
 impl KeyGenMessage {
     pub fn part(p: Part) -> Self
         ensures { message_of result ≡ part (part_of p) }
     {
-        let handles = p.rows;
-        KeyGenMessage {
-            kind: KeyGenKind::Part(p.commit),
-            handles,
-        }
+        KeyGenMessage::Part(p)
     }
 
     pub fn ack(a: Ack) -> Self
         ensures { message_of result ≡ ack (ack_of a) }
     {
-        let handles = a.values;
-        KeyGenMessage {
-            kind: KeyGenKind::Ack(a.proposer),
-            handles,
-        }
+        KeyGenMessage::Ack(a)
     }
 
     // What stands where no message is held.
     pub fn empty() -> Self
         ensures { result ≡ message_held no_message }
     {
-        KeyGenMessage {
-            kind: KeyGenKind::Part(0),
-            handles: Handles::empty(),
-        }
+        KeyGenMessage::Part(Part {
+            commit: 0,
+            rows: Handles::empty(),
+        })
     }
 
+    // Whether two are of one kind, with an equal number and equal handles.
+    #[tactic(auto, using(crate::proofs::MessageLaws::message_eq))]
     pub fn same(self, other: KeyGenMessage) -> bool
         ensures { result ≡ same_message (message_of self) (message_of other) }
     {
-        let a = self.kind;
-        let b = other.kind;
-        let xs = self.handles;
-        let ys = other.handles;
-        match a {
-            KeyGenKind::Part(x) => match b {
-                KeyGenKind::Part(y) => same_headed(x, xs, y, ys),
-                KeyGenKind::Ack(_) => false,
-            },
-            KeyGenKind::Ack(x) => match b {
-                KeyGenKind::Part(_) => false,
-                KeyGenKind::Ack(y) => same_headed(x, xs, y, ys),
-            },
-        }
+        self == other
     }
 }
 
-fn same_headed(x: u64, xs: Handles, y: u64, ys: Handles) -> bool
-    ensures { result ≡ same_headed x (handles_of xs) y (handles_of ys) }
-{
-    x == y && xs.same(ys)
-}
-
 // Era, signer, message, signature, as the Rust's tuple struct has them.
-#[derive(Clone, Copy)]
+#[derive(Clone, Copy, PartialEq)]
 pub struct SignedKeyGenMsg {
     pub era: u64,
     pub id: u32,
@@ -105,14 +73,12 @@ impl SignedKeyGenMsg {
         }
     }
 
-    #[tactic(auto, unfolding(crate::specs::KeyGenMessage::same_signed))]
+    // Whether two have equal fields.
+    #[tactic(auto, using(crate::proofs::MessageLaws::signed_eq))]
     pub fn same(self, other: SignedKeyGenMsg) -> bool
         ensures { result ≡ same_signed (signed_of self) (signed_of other) }
     {
-        self.era == other.era
-            && self.id == other.id
-            && self.sig == other.sig
-            && self.message.same(other.message)
+        self == other
     }
 }
 
@@ -125,15 +91,11 @@ pub fn read_message(s: &[u8], at: usize) -> Result<(KeyGenMessage, usize), Refus
     match tag {
         0 => {
             let (p, d) = sync_key_gen::read_part(s, c)?;
-            let handles = p.rows;
-            let kind = KeyGenKind::Part(p.commit);
-            Ok((KeyGenMessage { kind, handles }, d))
+            Ok((KeyGenMessage::Part(p), d))
         }
         1 => {
             let (a, d) = sync_key_gen::read_ack(s, c)?;
-            let handles = a.values;
-            let kind = KeyGenKind::Ack(a.proposer);
-            Ok((KeyGenMessage { kind, handles }, d))
+            Ok((KeyGenMessage::Ack(a), d))
         }
         _ => Err(Refusal::Malformed),
     }
@@ -163,10 +125,17 @@ pub fn read_signed(s: &[u8], at: usize) -> Result<(SignedKeyGenMsg, usize), Refu
     ))
 }
 
-// Whether a message is a part, its commitment or proposer's index, and how many rows or values it has.
+// Which of the two a message is.
+#[derive(Clone, Copy)]
+pub enum KeyGenKind {
+    Part,
+    Ack,
+}
+
+// A message's kind, its commitment or proposer's index, and how many rows or values it has.
 #[derive(Clone, Copy)]
 pub struct Body {
-    pub part: bool,
+    pub kind: KeyGenKind,
     pub first: u64,
     pub count: u64,
 }
@@ -176,7 +145,7 @@ pub struct Body {
 pub struct MessageHead {
     pub era: u64,
     pub id: u32,
-    pub part: bool,
+    pub kind: KeyGenKind,
     pub first: u64,
     pub count: u64,
     pub sig: u64,
@@ -205,21 +174,16 @@ fn read_body(s: &[u8], at: usize) -> Result<(Body, usize), Refusal>
     let Ok((tag, c)) = bincode::read_u32(s, at) else {
         return Err(Refusal::Malformed);
     };
-    if 1 < tag {
-        return Err(Refusal::Malformed);
-    }
+    let kind = match tag {
+        0 => KeyGenKind::Part,
+        1 => KeyGenKind::Ack,
+        _ => return Err(Refusal::Malformed),
+    };
     let Ok((first, d)) = bincode::read_u64(s, c) else {
         return Err(Refusal::Malformed);
     };
     let (count, e) = skip_handles(s, d)?;
-    Ok((
-        Body {
-            part: tag == 0,
-            first,
-            count,
-        },
-        e,
-    ))
+    Ok((Body { kind, first, count }, e))
 }
 
 // Rows and values are tested and not kept, so that no array is copied where the numbers alone are asked for.
@@ -240,7 +204,7 @@ pub fn read_head(s: &[u8], at: usize) -> Result<(MessageHead, usize), Refusal>
         MessageHead {
             era,
             id,
-            part: body.part,
+            kind: body.kind,
             first: body.first,
             count: body.count,
             sig,
@@ -253,50 +217,36 @@ pub fn read_head(s: &[u8], at: usize) -> Result<(MessageHead, usize), Refusal>
 pub fn message_size(m: KeyGenMessage) -> usize
     ensures { (result ≡ length (message_bytes (message_of m))) × (result ≤ 20 + 8 * base.rows) }
 {
-    let handles = m.handles;
+    let handles = match m {
+        KeyGenMessage::Part(p) => p.rows,
+        KeyGenMessage::Ack(a) => a.values,
+    };
     12 + sync_key_gen::handles_size(handles)
-}
-
-// A tag, a number and handles, as a part and an ack both are.
-fn write_tagged(buf: &mut [u8], at: usize, tag: u32, head: u64, handles: Handles) -> usize
-    ensures { (buf.new ≡ written buf.old at (tagged_bytes tag head (handles_of handles))) × (result ≡ written_to buf.old at (tagged_bytes tag head (handles_of handles))) }
-{
-    if bincode::room(buf.len(), at, 12 + sync_key_gen::handles_size(handles)) {
-        let c = bincode::write_u32(buf, at, tag);
-        let d = bincode::write_u64(buf, c, head);
-        sync_key_gen::write_handles(buf, d, handles)
-    } else {
-        at
-    }
 }
 
 // The position behind the message, or `at` where it has no room; then nothing is written.
 pub fn write_message(buf: &mut [u8], at: usize, m: KeyGenMessage) -> usize
     ensures { (buf.new ≡ written buf.old at (message_bytes (message_of m))) × (result ≡ written_to buf.old at (message_bytes (message_of m))) }
 {
-    let kind = m.kind;
-    let handles = m.handles;
-    match kind {
-        KeyGenKind::Part(commit) => write_tagged(buf, at, 0, commit, handles),
-        KeyGenKind::Ack(proposer) => write_tagged(buf, at, 1, proposer, handles),
+    match m {
+        KeyGenMessage::Part(p) => bincode::write_both(buf, at, 0u32, p),
+        KeyGenMessage::Ack(a) => bincode::write_both(buf, at, 1u32, a),
     }
 }
 
 pub fn signed_size(x: SignedKeyGenMsg) -> usize
     ensures { (result ≡ length (signed_bytes (signed_of x))) × (result ≤ 40 + 8 * base.rows) }
 {
-    let message = x.message;
-    20 + message_size(message)
+    20 + message_size(x.message)
 }
 
 pub fn write_signed(buf: &mut [u8], at: usize, x: SignedKeyGenMsg) -> usize
     ensures { (buf.new ≡ written buf.old at (signed_bytes (signed_of x))) × (result ≡ written_to buf.old at (signed_bytes (signed_of x))) }
 {
     if bincode::room(buf.len(), at, signed_size(x)) {
-        let message = x.message;
         let a = bincode::write_u64(buf, at, x.era);
         let b = bincode::write_u32(buf, a, x.id);
-        let c = write_message(buf, b, message);
+        let c = write_message(buf, b, x.message);
         bincode::write_u64(buf, c, x.sig)
     } else {
         at

@@ -1,11 +1,11 @@
 -- The running key generation with its count of received messages for each sender.
-use Rattle.std.specs.Prelude.{ℕ, ◌+◌, List, [], Bool, false, cond, get_or, set, replicate, ltb}
-use Rattle.lists.specs.Lists.{Found, found, nothing}
-use Rattle.bincode.specs.Sizes.{Sizes, base}
+use Rattle.std.specs.Prelude.{ℕ, ◌+◌, List, Bool, false, cond, get_or, set, replicate, ltb}
+use Rattle.std.specs.declared.option.Option.{Option}
+use Rattle.lists.specs.Lists.{Found, found, nothing, option_as_found}
+use Rattle.bincode.specs.Sizes.{Sizes}
 use Rattle.pub_key_map.specs.declared.Node.{Node}
-use Rattle.pub_key_map.specs.PubKeyMap.{map_held}
 use Rattle.network_info.specs.NetworkInfo.{node_index}
-use Rattle.key_gen.specs.KeyGen.{KeyGenOf, node_count, ready, key_gen_of, fresh_held}
+use Rattle.key_gen.specs.KeyGen.{KeyGenOf, node_count, ready, key_gen_of}
 use Rattle.key_gen_state.specs.declared.KeyGenState.{KeyGenState}
 use Rattle.key_gen_state.specs.declared.Counted.{Counted}
 
@@ -58,16 +58,12 @@ abbrev pub ready_state : Found KeyGenStateOf → Bool
 ready_state (found g) = ready g.key_gen
 ready_state nothing = false
 
--- as code holds it: with a flag, since there may be none
+-- as code holds it: where there is one
 abbrev pub running_of : KeyGenState → KeyGenStateOf
 running_of s = record { key_gen = key_gen_of s.key_gen; counts = s.counts.counts }
 
-abbrev pub state_of : KeyGenState → Found KeyGenStateOf
-state_of s = cond s.running (found (running_of s)) nothing
-
--- the struct where there is none
-abbrev pub no_key_gen : KeyGenState
-no_key_gen = record { running = false; key_gen = fresh_held 0 (map_held []); counts = record { counts = replicate (base.nodes + base.nodes) 0 } }
+abbrev pub state_of : Option KeyGenState → Found KeyGenStateOf
+state_of s = option_as_found running_of s
 
 abbrev pub counted_of : Counted → CountedOf
 counted_of r = record { state = running_of r.state; count = r.count }

@@ -3,9 +3,6 @@ use Rattle.std.specs.Prelude.{ℕ, ◌+◌, ◌≡◌, List, cond, get_or, set, 
 use Rattle.lists.specs.Lists.{Found, found, nothing}
 use Rattle.bincode.specs.Sizes.{Sizes}
 use Rattle.pub_key_map.specs.declared.Node.{Node}
-use Rattle.key_gen_state.specs.declared.KeyGenState.{KeyGenState}
-use Rattle.key_gen_state.specs.declared.MessageCounts.{MessageCounts}
-use Rattle.key_gen_state.specs.declared.Counted.{Counted}
 use Rattle.key_gen_state.specs.KeyGenState.{KeyGenStateOf, sender_place, raised}
 
 -- a number of nodes, no higher than a map has places
@@ -31,7 +28,3 @@ placed z nothing = z.nodes + z.nodes
 
 unfoldable pub place_of : Sizes → List Node → KeyGenStateOf → ℕ → ℕ
 place_of z current g sender = placed z (sender_place z current g.key_gen.nodes sender)
-
--- the state with other counts, and a count
-abbrev pub counts_put : KeyGenState → MessageCounts → ℕ → Counted
-counts_put s counts count = record { state = record { running = s.running; key_gen = s.key_gen; counts = counts }; count = count }

@@ -2,12 +2,11 @@
 #![tactic(auto)]
 
 ghost use Rattle.std.specs.Prelude.{◌≡◌, ◌+◌, ◌≤◌, length, replicate};
-ghost use Rattle.lists.specs.Lists.{found};
 ghost use Rattle.bincode.specs.Sizes.{base};
 ghost use Rattle.pub_key_map.specs.PubKeyMap.{nodes_of};
 ghost use Rattle.key_gen.specs.KeyGen.{key_gen_of};
-ghost use Rattle.key_gen_state.specs.KeyGenState.{state_of, running_of, no_key_gen, fresh_state, raised, counted_of, count_messages, ready_state};
-ghost use Rattle.key_gen_state.specs.LentCounts.{nodes_up_to, CountRaised, place_of, counts_put};
+ghost use Rattle.key_gen_state.specs.KeyGenState.{state_of, running_of, fresh_state, raised, counted_of, count_messages, ready_state};
+ghost use Rattle.key_gen_state.specs.LentCounts.{nodes_up_to, CountRaised, place_of};
 
 use key_gen::KeyGen;
 use pub_key_map::PubKeyMap;
@@ -30,10 +29,9 @@ impl MessageCounts {
     }
 }
 
-// Whether key generation runs, and with what; else the other fields do not count.
+// A running key generation.
 #[derive(Clone, Copy)]
 pub struct KeyGenState {
-    pub running: bool,
     pub key_gen: KeyGen,
     pub counts: MessageCounts,
 }
@@ -43,13 +41,6 @@ pub struct KeyGenState {
 pub struct Counted {
     pub state: KeyGenState,
     pub count: u8,
-}
-
-// Counts with one raised, and that one.
-#[derive(Clone, Copy)]
-struct RaisedCounts {
-    counts: MessageCounts,
-    count: u8,
 }
 
 // A sender's place among the counts; past the last for one that is in neither map.
@@ -65,23 +56,6 @@ fn sender_place(state: KeyGenState, current: PubKeyMap, sender: u32) -> usize
         return PubKeyMap::LIMIT + j;
     }
     MessageCounts::LIMIT
-}
-
-// How many nodes the candidate map has.
-fn node_count(state: KeyGenState) -> usize
-    ensures { (result ≡ length (running_of state).key_gen.nodes) × (result ≤ base.nodes) }
-{
-    let key_gen = state.key_gen;
-    let candidate = key_gen.pub_keys;
-    candidate.len()
-}
-
-// The state with other counts, and a count.
-fn with_counts(mut state: KeyGenState, counts: MessageCounts, count: u8) -> Counted
-    ensures { result ≡ counts_put state counts count }
-{
-    state.counts = counts;
-    Counted { state, count }
 }
 
 // A number of nodes, no higher than a map has places.
@@ -102,71 +76,46 @@ fn raise(count: u8, n: usize) -> u8
     count
 }
 
-// The count at a place raised, and answered; past the last place nothing changes, and the count is 0.
-fn raised_counts(mut c: MessageCounts, place: usize, n: usize) -> RaisedCounts
-    ensures { CountRaised base c.counts place n result.counts.counts result.count }
-{
-    if place < MessageCounts::LIMIT {
-        let nodes = nodes_up_to(n);
-        let count = raise(c.counts[place], nodes);
-        c.counts[place] = count;
-        return RaisedCounts { counts: c, count };
-    }
-    RaisedCounts {
-        counts: c,
-        count: 0,
-    }
-}
-
 // Raises the count at a place, but not past the number of nodes and two, and answers it; past the last place nothing changes, and it answers 0.
 pub fn count_messages(counts: &mut MessageCounts, place: usize, n: usize) -> u8
     ensures { CountRaised base counts.old.counts place n counts.new.counts result }
 {
-    let c = *counts;
-    let r = raised_counts(c, place, n);
-    *counts = r.counts;
-    r.count
+    if MessageCounts::LIMIT <= place {
+        return 0;
+    }
+    let count = raise(counts.counts[place], nodes_up_to(n));
+    counts.counts[place] = count;
+    count
+}
+
+// Whether key generation runs and is ready.
+pub fn is_ready(state: &Option<KeyGenState>) -> bool
+    ensures { result ≡ ready_state (state_of state.now) }
+{
+    match state {
+        Some(running) => running.key_gen.is_ready(),
+        None => false,
+    }
 }
 
 impl KeyGenState {
-    // No key generation.
-    pub fn empty() -> Self
-        ensures { result ≡ no_key_gen }
-    {
-        KeyGenState {
-            running: false,
-            key_gen: KeyGen::new(0, PubKeyMap::empty()),
-            counts: MessageCounts::empty(),
-        }
-    }
-
     // A key generation that begins.
     pub fn new(key_gen: KeyGen) -> Self
-        ensures { state_of result ≡ found (fresh_state base (key_gen_of key_gen)) }
+        ensures { running_of result ≡ fresh_state base (key_gen_of key_gen) }
     {
         KeyGenState {
-            running: true,
             key_gen,
             counts: MessageCounts::empty(),
         }
     }
 
-    // Whether key generation runs and is ready.
-    pub fn is_ready(self) -> bool
-        ensures { result ≡ ready_state (state_of self) }
-    {
-        let key_gen = self.key_gen;
-        self.running && key_gen.is_ready()
-    }
-
     // Raises the sender's count in the record of counts, which is lent, and answers it; 0 for a sender that is in neither map.
-    pub fn count_messages(self, current: PubKeyMap, sender: u32) -> Counted
-        ensures { (counted_of result ≡ count_messages base (nodes_of current) (running_of self) sender) × (result.state.running ≡ self.running) }
+    pub fn count_messages(mut self, current: PubKeyMap, sender: u32) -> Counted
+        ensures { counted_of result ≡ count_messages base (nodes_of current) (running_of self) sender }
     {
-        let mut counts = self.counts;
         let place = sender_place(self, current, sender);
-        let n = node_count(self);
-        let count = count_messages(&mut counts, place, n);
-        with_counts(self, counts, count)
+        let n = self.key_gen.pub_keys.len();
+        let count = count_messages(&mut self.counts, place, n);
+        Counted { state: self, count }
     }
 }

@@ -73,6 +73,3 @@ module _ {A B : Type 0} (f : A → B) (q : B → Bool) (xs : List A) (count limi
   -- nothing is left: the elements kept, and what they stand for
   pub keep_held : (ys : List A) (kept i : ℕ) → Keeping ys kept i → n ≤ i → take kept ys ≡ filter (λ x. q (f x)) (take count xs)
   keep_held ys kept i v h = sym (kept_end (λ x. q (f x)) n ys kept i h) ∙ v.4
-
-  pub keep_end : (ys : List A) (kept i : ℕ) → Keeping ys kept i → n ≤ i → map f (take kept ys) ≡ filter q (map f (take count xs))
-  keep_end ys kept i v h = ap (map f) (keep_held ys kept i v h) ∙ map_filter f q (take count xs)

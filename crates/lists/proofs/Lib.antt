@@ -5,5 +5,6 @@ pub mod MarkedLaws
 pub mod KeptLaws
 pub mod FilterLaws
 pub mod PlaceLaws
+pub mod PresentLaws
 pub mod ViewLaws
 pub mod ShiftLaws

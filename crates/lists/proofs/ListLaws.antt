@@ -7,7 +7,7 @@ use mathlib.Core.Bool.{Bool, true, false, cond, ◌&&◌}
 use native.Mathlib.Omega.{arith}
 use native.Mathlib.Numerals.{add-one}
 use lib.ListN.{length, take, drop, get_or, set, replicate, length-append, length-take, length-replicate, drop_of_length-le}
-use lib.Seq.{drop-cons, get_or-take, set_at, take_at, take_all, take-suc-set}
+use lib.Seq.{drop-cons, get_or-take, set_at, take_at, take-suc-set}
 use Rattle.lists.specs.Lists.{padded, eq_list}
 
 -- a test does not come out both ways
@@ -38,10 +38,6 @@ module _ {A : Type 0} where
   pub rest_none : (xs : List A) (i : ℕ) → length xs ≤ i → drop i xs ≡ []
   rest_none xs i h = drop_of_length-le xs h
 
-  -- a count past the array counts as the array's length
-  pub length_live : (xs : List A) (n limit : ℕ) → length xs ≡ limit → (n ≤ limit → length (take n xs) ≡ n) × (limit ≤ n → length (take n xs) ≡ limit)
-  length_live xs n limit e = (λ h. simp length-take (omega arith), λ h. simp length-take (omega arith))
-
   -- cut to its own length, what was cut stays as it is
   pub take_live : (n : ℕ) (xs : List A) → take (length (take n xs)) xs ≡ take n xs
   take_live zero xs = refl
@@ -55,16 +51,6 @@ module _ {A : Type 0} where
     append_live h =
         let live : take n xs ≡ take count xs = ap (λ (k : ℕ). take k xs) e ∙ take_live count xs in
         rw (add-one, take-suc-set xs n x (omega arith), live)
-
-    -- the same of a list that is cut at the limit
-    pub append_held : n < limit → take (n + 1) (set xs n x) ≡ take limit (take count xs ++ (x ∷ []))
-    append_held h = append_live h ∙ sym (take_all limit (take count xs ++ (x ∷ [])) (simp length-append (omega arith)))
-
-    -- a full array has no place for it
-    pub append_full : limit ≤ n → take count xs ≡ take limit (take count xs ++ (x ∷ []))
-    append_full h =
-        let k : length (take count xs) ≡ limit = omega (arith, length-take count xs) in
-        sym (take_at (take count xs) (x ∷ []) limit k)
 
   -- a list held in an array of n places
   module _ (n : ℕ) (none : A) where

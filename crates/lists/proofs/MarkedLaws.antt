@@ -6,11 +6,9 @@ use mathlib.Core.List.{List, [], ◌∷◌}
 use mathlib.Core.Bool.{Bool, true, false, cond}
 use native.Mathlib.Omega.{arith}
 use native.Mathlib.Nat.{add-zero}
-use native.Mathlib.Numerals.{add-one}
-use lib.ListN.{length, drop, get_or, set}
+use lib.ListN.{length, get_or, set}
 use borrow.Author.Tests.{lt-ltb, le-ltb, eq-eqb, ne_eqb}
 use Rattle.lists.specs.Lists.{found, nothing, lookup, insert, marked}
-use Rattle.lists.proofs.ListLaws.{rest_none}
 
 module _ {A B : Type 0} (mark : A → Bool) (view : ℕ → A → B) (key : B → ℕ) (keyed : (i : ℕ) (x : A) → key (view i x) ≡ i) where
   -- no place before the first

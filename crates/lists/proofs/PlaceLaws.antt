@@ -1,33 +1,17 @@
 -- Laws of what is handed out by place.
 -- Assumes nothing.
-use Prim.Native.Nat.{ℕ, zero, suc, ◌≤◌, ◌<◌}
-use mathlib.Core.Path.{◌≡◌, refl, ap, ◌∙◌}
+use Prim.Native.Nat.{ℕ, zero, suc}
+use mathlib.Core.Path.{◌≡◌, refl}
 use mathlib.Core.List.{List, [], ◌∷◌, ◌++◌, map}
-use native.Mathlib.Omega.{arith}
-use lib.ListN.{length, take, get_or}
-use Rattle.lists.specs.Lists.{found, nothing, map_found, at_place}
+use lib.ListN.{length}
+use Rattle.lists.specs.Lists.{found, map_found, at_place}
 
 module _ {A : Type 0} where
-  -- past the last nothing stands
-  pub at_past : (xs : List A) (i : ℕ) → length xs ≤ i → at_place i xs ≡ nothing
-  unfolding at_place
-  at_past [] i h = refl
-  at_past (x ∷ xs) zero h = absurd (let y : ⊥ = omega arith in y)
-  at_past (x ∷ xs) (suc i) h = at_past xs i (omega arith)
-
   -- an element with as many before it as its place says
   pub at_between : (before behind : List A) (x : A) → at_place (length before) (before ++ (x ∷ behind)) ≡ found x
   unfolding at_place
   at_between [] behind x = refl
   at_between (y ∷ before) behind x = at_between before behind x
-
-  -- an element of an array below a count
-  pub at_live : (xs : List A) (count i : ℕ) (x : A) → i < length (take count xs) → at_place i (take count xs) ≡ found (get_or xs i x)
-  unfolding at_place
-  at_live xs zero i x h = absurd (let y : ⊥ = omega arith in y)
-  at_live [] (suc count) i x h = absurd (let y : ⊥ = omega arith in y)
-  at_live (y ∷ xs) (suc count) zero x h = refl
-  at_live (y ∷ xs) (suc count) (suc i) x h = at_live xs count i x (omega arith)
 
 -- what the elements stand for
 module _ {A B : Type 0} (f : A → B) where
@@ -36,6 +20,3 @@ module _ {A B : Type 0} (f : A → B) where
   at_map n [] = refl
   at_map zero (x ∷ xs) = refl
   at_map (suc n) (x ∷ xs) = at_map n xs
-
-  pub at_held : (xs : List A) (count i : ℕ) (x : A) → i < length (take count xs) → at_place i (map f (take count xs)) ≡ found (f (get_or xs i x))
-  at_held xs count i x h = at_map i (take count xs) ∙ ap (map_found f) (at_live xs count i x h)

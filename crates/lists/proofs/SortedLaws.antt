@@ -1,34 +1,18 @@
 -- Laws of lists that are sorted by a key and held in an array with a count.
 -- Assumes nothing.
-use Prim.Native.Nat.{ℕ, suc, ◌+◌, ◌-◌, ◌≤◌, ◌<◌}
+use Prim.Native.Nat.{ℕ, suc, ◌≤◌, ◌<◌}
 use mathlib.Core.Path.{◌≡◌, refl, sym, ap, ◌∙◌}
-use mathlib.Core.List.{List, [], ◌∷◌, ◌++◌, append_assoc, map}
+use mathlib.Core.List.{List, [], ◌∷◌, ◌++◌, map}
 use mathlib.Core.Bool.{Bool, true, false, cond}
 use native.Mathlib.Omega.{arith}
-use native.Mathlib.Numerals.{add-one}
 use lib.Dec.{ltb, eqb}
-use lib.ListN.{length, take, drop, get_or, set, length-append, length-take, length-drop, get_or-append, length-map}
-use lib.Seq.{set_at, take_at, take-suc, length-take-le, get_or-take, split_at, take-take, take-set-lt}
+use lib.ListN.{length, take, drop, get_or, set, length-take, length-map}
+use lib.Seq.{get_or-take, take-set-lt}
 use borrow.Author.Tests.{lt-ltb, le-ltb, ltb-true, eq-eqb, ne_eqb, eqb-true}
-use Rattle.lists.specs.Lists.{found, nothing, map_found, lookup, below, insert, has_key, insert_within, takes_place}
-use Rattle.lists.proofs.ListLaws.{false_true, rest_more, rest_none}
+use Rattle.lists.specs.Lists.{found, map_found, lookup, below, insert, has_key, insert_within, takes_place}
+use Rattle.lists.proofs.ListLaws.{false_true}
 
 module _ {A : Type 0} (key : A → ℕ) where
-  -- turns of the search for a place
-  module _ (k : ℕ) (xs : List A) (i : ℕ) where
-    module _ (x : A) (h : drop i xs ≡ x ∷ drop (i + 1) xs) where
-      pub below_more : key x < k → i + below key k (drop i xs) ≡ (i + 1) + below key k (drop (i + 1) xs)
-      unfolding below
-      below_more l = rw (h, lt-ltb (key x) k l) (omega arith)
-
-      pub below_stop : k ≤ key x → i + below key k (drop i xs) ≡ i
-      unfolding below
-      below_stop l = rw (h, le-ltb (key x) k l) (omega arith)
-
-    pub below_end : length xs ≤ i → i + below key k (drop i xs) ≡ i
-    unfolding below
-    below_end l = rw (rest_none xs i l) (omega arith)
-
   pub below_le : (k : ℕ) (xs : List A) → below key k xs ≤ length xs
   unfolding below
   below_le k [] = omega arith
@@ -71,21 +55,6 @@ module _ {A : Type 0} (key : A → ℕ) where
           let e = ne_eqb (key x) (key a) (λ e. n (omega arith) e) in
           (e, rw e)
 
-  -- turns of the search for a key
-  module _ (k : ℕ) (xs : List A) (i : ℕ) where
-    module _ (x : A) (h : drop i xs ≡ x ∷ drop (i + 1) xs) where
-      pub lookup_hit : key x ≡ k → lookup key (drop i xs) k ≡ found x
-      unfolding lookup
-      lookup_hit e = rw (h, eq-eqb (key x) k e)
-
-      pub lookup_miss : (key x ≡ k → ⊥) → lookup key (drop i xs) k ≡ lookup key (drop (i + 1) xs) k
-      unfolding lookup
-      lookup_miss e = rw (h, ne_eqb (key x) k e)
-
-    pub lookup_end : length xs ≤ i → lookup key (drop i xs) k ≡ nothing
-    unfolding lookup
-    lookup_end l = rw (rest_none xs i l)
-
   -- what the bounded insertion comes to in each case
   module _ (limit : ℕ) (a : A) (xs : List A) where
     pub within_same : has_key key (key a) xs ≡ true → insert_within key limit a xs ≡ insert key a xs
@@ -118,37 +87,6 @@ module _ {A : Type 0} (key : A → ℕ) where
     pub within_full : has_key key (key a) xs ≡ false → limit ≤ length xs → insert_within key limit a xs ≡ xs
     unfolding insert_within
     within_full e h = rw (e, le-ltb (length xs) limit h)
-
--- A loop that moves the elements from a place on up by one, the last first. Below j nothing has moved yet; at j stands what is to be written over.
-module _ {A : Type 0} (xs : List A) (n : ℕ) (h : n < length xs) where
-  abbrev pub Shifted : ℕ → List A → Type 0
-  Shifted j ys = (y : A) × (ys ≡ take j xs ++ (y ∷ (drop j (take n xs) ++ drop (suc n) xs)))
-
-  pub shift_start : A → Shifted n xs
-  shift_start z =
-      let l : length (take n xs) ≤ n = simp length-take (omega arith) in
-      (get_or xs n z, rw (rest_none (take n xs) n l) (split_at xs n z h))
-
-  pub shift_more : (j : ℕ) (ys : List A) (z : A) → j < n → Shifted (j + 1) ys → Shifted j (set ys (j + 1) (get_or ys j z))
-  shift_more j ys z l s =
-      let v = get_or xs j z in
-      let rest = drop (j + 1) (take n xs) ++ drop (suc n) xs in
-      let front : length (take (j + 1) xs) ≡ j + 1 = length-take-le (j + 1) xs (omega arith) in
-      let at_j : get_or ys j z ≡ v = rw s.1 (get_or-append (take (j + 1) xs) (s.0 ∷ rest) z j (omega arith) ∙ get_or-take (j + 1) xs j z (omega arith)) in
-      let one : take (j + 1) xs ≡ take j xs ++ (v ∷ []) = rw (add-one, take-suc xs j z (omega arith)) in
-      let next : drop j (take n xs) ≡ v ∷ drop (j + 1) (take n xs) = rest_more xs n j z (simp length-take (omega arith)) in
-      let moved : set ys (j + 1) v ≡ take (j + 1) xs ++ (v ∷ rest) = ap (λ (l : List A). set l (j + 1) v) s.1 ∙ set_at (take (j + 1) xs) s.0 rest v (j + 1) front in
-      (v, rw (at_j, moved, one, append_assoc, next))
-
-  pub shift_done : (j : ℕ) (ys : List A) (a : A) → j ≤ n → Shifted j ys → take (n + 1) (set ys j a) ≡ take j (take n xs) ++ (a ∷ drop j (take n xs))
-  shift_done j ys a l s =
-      let rest = drop j (take n xs) in
-      let front : length (take j xs) ≡ j = length-take-le j xs (omega arith) in
-      let all : length (take n xs) ≡ n = length-take-le n xs (omega arith) in
-      let len : length (take j xs ++ (a ∷ rest)) ≡ n + 1 = simp (length-append, length-drop) (omega arith) in
-      ap (λ (l : List A). take (n + 1) (set l j a)) s.1
-      ∙ rw (set_at (take j xs) s.0 (rest ++ drop (suc n) xs) a j front, take-take j n xs l)
-      (ap (take (n + 1)) (sym (append_assoc (take j xs) (a ∷ rest) (drop (suc n) xs))) ∙ take_at (take j xs ++ (a ∷ rest)) (drop (suc n) xs) (n + 1) len)
 
 -- the same of what the elements stand for, where that has the key
 module _ {A B : Type 0} (f : A → B) (key : B → ℕ) where
@@ -212,9 +150,6 @@ module _ {A : Type 0} (key : A → ℕ) (a : A) (xs : List A) (n p : ℕ) where
         same_at : (has_key key (key a) (take n xs) ≡ true) × (insert key a (take n xs) ≡ set (take n xs) (below key (key a) (take n xs)) a)
         same_at = let g : key (get_or (take n xs) p z) ≡ key a = rw stands h in at_same key a z (take n xs) (rw e at l) (rw e at g)
 
-        pub key_stands : has_key key (key a) (take n xs) ≡ true
-        key_stands = same_at.0
-
         pub held_same : (limit : ℕ) → take n (set xs p a) ≡ insert_within key limit a (take n xs)
         held_same limit =
             let i : take n (set xs p a) ≡ set (take n xs) p a = take-set-lt n xs p a (omega (arith, length-take n xs)) in
@@ -226,19 +161,6 @@ module _ {A : Type 0} (key : A → ℕ) (a : A) (xs : List A) (n p : ℕ) where
 
     pub held_full : limit ≤ length (take n xs) → take n xs ≡ insert_within key limit a (take n xs)
     held_full l = sym (within_full key limit a (take n xs) s.0 l)
-
--- the same of what the elements stand for, where that has the key
-module _ {A B : Type 0} (f : A → B) (key : B → ℕ) (a : A) (xs : List A) (n p limit : ℕ) where
-  pub put_same : p ≡ below (key_of f key) (key (f a)) (take n xs) → (z : A) → p < length (take n xs) → key (f (get_or xs p z)) ≡ key (f a)
-      → map f (take n (set xs p a)) ≡ insert_within key limit (f a) (map f (take n xs))
-  put_same e z l h = ap (map f) (held_same (key_of f key) a xs n p e z l h limit) ∙ map_insert_within f key limit a (take n xs)
-
-  module _ (s : NewAt (key_of f key) a (take n xs) p) where
-    pub put_new : length (take n xs) < limit → map f (take p (take n xs) ++ (a ∷ drop p (take n xs))) ≡ insert_within key limit (f a) (map f (take n xs))
-    put_new l = ap (map f) (held_new (key_of f key) a xs n p s limit l) ∙ map_insert_within f key limit a (take n xs)
-
-    pub put_full : limit ≤ length (take n xs) → map f (take n xs) ≡ insert_within key limit (f a) (map f (take n xs))
-    put_full l = ap (map f) (held_full (key_of f key) a xs n p s limit l) ∙ map_insert_within f key limit a (take n xs)
 
 -- what an insertion does to a list, sorted or not
 module _ {A : Type 0} (key : A → ℕ) where

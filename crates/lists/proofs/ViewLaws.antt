@@ -1,12 +1,11 @@
 -- Laws of what the elements of an array below a count stand for.
 -- Assumes nothing.
-use Prim.Native.Nat.{ℕ, zero, suc, ◌+◌, ◌<◌}
+use Prim.Native.Nat.{ℕ, zero, suc, ◌<◌}
 use mathlib.Core.Path.{◌≡◌, refl, ap, ◌∙◌}
 use mathlib.Core.List.{List, [], ◌∷◌, map}
 use native.Mathlib.Omega.{arith}
-use native.Mathlib.Numerals.{add-one}
-use lib.ListN.{length, take, drop, get_or, length-take, length-map}
-use lib.Seq.{drop-cons, get_or-take}
+use lib.ListN.{length, take, get_or, length-take, length-map}
+use lib.Seq.{get_or-take}
 
 module _ {A B : Type 0} (f : A → B) (xs : List A) (n i : ℕ) (l : i < length (map f (take n xs))) where
   -- the place lies below the count and in the array
@@ -21,7 +20,3 @@ module _ {A B : Type 0} (f : A → B) (xs : List A) (n i : ℕ) (l : i < length 
       other [] k h = absurd (let w : ⊥ = omega arith in w)
       other (x ∷ ys) zero h = refl
       other (x ∷ ys) (suc k) h = other ys k (omega arith)
-
-  -- what is left from a place on
-  pub view_more : (z : A) → drop i (map f (take n xs)) ≡ f (get_or xs i z) ∷ drop (i + 1) (map f (take n xs))
-  view_more z = rw (add-one, drop-cons (map f (take n xs)) i (f z) l, view_at z (f z))

@@ -78,3 +78,10 @@ module _ {A : Type 0} (p : A → Bool) where
   unfoldable pub filter : List A → List A
   filter [] = []
   filter (x ∷ xs) = cond (p x) (x ∷ filter xs) (filter xs)
+
+-- what the taken places of an array hold, each with its place, from place i on
+module _ {A B : Type 0} (view : ℕ → A → B) where
+  unfoldable pub present : ℕ → List (Option A) → List B
+  present i [] = []
+  present i (Some x ∷ xs) = view i x ∷ present (suc i) xs
+  present i (None ∷ xs) = present (suc i) xs

@@ -5,32 +5,28 @@ use Rattle.bincode.specs.Numbers.{read_num, bytes_of}
 use Rattle.bincode.specs.Sizes.{Sizes}
 use Rattle.bincode.specs.Stands.{concat}
 use Rattle.votes.specs.declared.SignedVote as votes
-use Rattle.votes.specs.Votes.{SignedVoteOf, signed_of, signed_held, no_signed, read_signed_vote, signed_bytes, SignedVoteOk}
+use Rattle.votes.specs.Votes.{SignedVoteOf, signed_of, signed_held, read_signed_vote, signed_bytes, SignedVoteOk}
 use Rattle.key_gen_message.specs.declared.KeyGenMessage.{KeyGenMessage}
-use Rattle.key_gen_message.specs.KeyGenMessage.{KeyGenMessageOf, message_of, message_held, no_message, read_key_gen_message, message_bytes, MessageOk}
-use Rattle.message.specs.declared.MessageKind.{MessageKind}
-use Rattle.message.specs.declared.MessageKind.TheVariants.{KeyGen, SignedVote}
+use Rattle.key_gen_message.specs.KeyGenMessage.{KeyGenMessageOf, message_of, message_held, read_key_gen_message, message_bytes, MessageOk}
 use Rattle.message.specs.declared.Message.{Message}
+use Rattle.message.specs.declared.Message.TheVariants.{KeyGen, SignedVote}
 
 -- era, message and signature; or a signed vote
 pub data MessageContent : Type 0 where
   key_gen : ℕ → KeyGenMessageOf → ℕ → MessageContent
   signed_vote : SignedVoteOf → MessageContent
 
--- what any value of the struct stands for: the fields of the other kind do not count
-abbrev pub content_of_kind : MessageKind → Message → MessageContent
-content_of_kind KeyGen m = key_gen m.era (message_of m.message) m.sig
-content_of_kind SignedVote m = signed_vote (signed_of m.vote)
-
+-- what any value of the enum stands for
 abbrev pub content_of : Message → MessageContent
-content_of m = content_of_kind m.kind m
+content_of (KeyGen era m sig) = key_gen era (message_of m) sig
+content_of (SignedVote v) = signed_vote (signed_of v)
 
--- the struct that holds a message: the fields of the other kind are empty
+-- the value that holds a message
 abbrev pub key_gen_held : ℕ → KeyGenMessage → ℕ → Message
-key_gen_held era m sig = record { kind = KeyGen; era = era; message = m; sig = sig; vote = signed_held no_signed }
+key_gen_held era m sig = KeyGen era m sig
 
 abbrev pub vote_held : votes.SignedVote → Message
-vote_held v = record { kind = SignedVote; era = 0; message = message_held no_message; sig = 0; vote = v }
+vote_held v = SignedVote v
 
 abbrev pub content_held : MessageContent → Message
 content_held (key_gen era m sig) = key_gen_held era (message_held m) sig

@@ -6,53 +6,31 @@ ghost use Rattle.bincode.specs.Read.{whole};
 ghost use Rattle.bincode.specs.Answer.{answer};
 ghost use Rattle.bincode.specs.Sizes.{base};
 ghost use Rattle.bincode.specs.Writing.{written, written_to};
-ghost use Rattle.votes.specs.Votes.{signed_of};
 ghost use Rattle.key_gen_message.specs.KeyGenMessage.{message_of};
-ghost use Rattle.message.specs.Message.{key_gen, signed_vote, content_of, key_gen_held, vote_held, content_held, read_key_gen, read_vote, read_message, content_bytes};
+ghost use Rattle.message.specs.Message.{key_gen, content_of, key_gen_held, vote_held, content_held, read_key_gen, read_vote, read_message, content_bytes};
 
 use bincode::Refusal;
 use key_gen_message::KeyGenMessage;
 use votes::SignedVote;
 
+// A key-generation message with its era and signature, or a signed vote.
 #[derive(Clone, Copy)]
-pub enum MessageKind {
-    KeyGen,
-    SignedVote,
-}
-
-// A key-generation message with its era and signature, or a signed vote; what the kind has not is empty.
-#[derive(Clone, Copy)]
-pub struct Message {
-    pub kind: MessageKind,
-    pub era: u64,
-    pub message: KeyGenMessage,
-    pub sig: u64,
-    pub vote: SignedVote,
+pub enum Message {
+    KeyGen(u64, KeyGenMessage, u64),
+    SignedVote(SignedVote),
 }
 
 impl Message {
     pub fn of_key_gen(era: u64, message: KeyGenMessage, sig: u64) -> Self
         ensures { result ≡ key_gen_held era message sig }
     {
-        Message {
-            kind: MessageKind::KeyGen,
-            era,
-            message,
-            sig,
-            vote: SignedVote::empty(),
-        }
+        Message::KeyGen(era, message, sig)
     }
 
     pub fn of_vote(vote: SignedVote) -> Self
         ensures { result ≡ vote_held vote }
     {
-        Message {
-            kind: MessageKind::SignedVote,
-            era: 0,
-            message: KeyGenMessage::empty(),
-            sig: 0,
-            vote,
-        }
+        Message::SignedVote(vote)
     }
 }
 
@@ -66,14 +44,14 @@ fn read_key_gen(s: &[u8], at: usize) -> Result<(Message, usize), Refusal>
     let Ok((sig, e)) = bincode::read_u64(s, d) else {
         return Err(Refusal::Malformed);
     };
-    Ok((Message::of_key_gen(era, message, sig), e))
+    Ok((Message::KeyGen(era, message, sig), e))
 }
 
 fn read_vote(s: &[u8], at: usize) -> Result<(Message, usize), Refusal>
     ensures { result ≡ answer content_held (read_vote base s.now at) }
 {
     let (vote, c) = votes::read_signed_vote(s, at)?;
-    Ok((Message::of_vote(vote), c))
+    Ok((Message::SignedVote(vote), c))
 }
 
 pub fn read_message(s: &[u8], at: usize) -> Result<(Message, usize), Refusal>
@@ -82,24 +60,19 @@ pub fn read_message(s: &[u8], at: usize) -> Result<(Message, usize), Refusal>
     let Ok((tag, c)) = bincode::read_u32(s, at) else {
         return Err(Refusal::Malformed);
     };
-    if tag == 1 {
-        return read_key_gen(s, c);
+    match tag {
+        1 => read_key_gen(s, c),
+        2 => read_vote(s, c),
+        _ => Err(Refusal::Malformed),
     }
-    if tag == 2 {
-        return read_vote(s, c);
-    }
-    Err(Refusal::Malformed)
 }
 
 // A message that is a whole input: nothing may be left over.
+#[tactic(auto, using(bincode::proofs::AnswerLaws::all_read_whole))]
 pub fn read_whole_message(s: &[u8]) -> Result<(Message, usize), Refusal>
     ensures { result ≡ answer content_held (whole (read_message base s.now) s.now) }
 {
-    let (message, c) = read_message(s, 0)?;
-    if c < s.len() {
-        return Err(Refusal::Malformed);
-    }
-    Ok((message, c))
+    bincode::all_read(s, read_message(s, 0))
 }
 
 fn write_key_gen(buf: &mut [u8], at: usize, era: u64, message: KeyGenMessage, sig: u64) -> usize
@@ -116,27 +89,12 @@ fn write_key_gen(buf: &mut [u8], at: usize, era: u64, message: KeyGenMessage, si
     }
 }
 
-fn write_vote(buf: &mut [u8], at: usize, vote: SignedVote) -> usize
-    ensures { (buf.new ≡ written buf.old at (content_bytes (signed_vote (signed_of vote))))
-        × (result ≡ written_to buf.old at (content_bytes (signed_vote (signed_of vote)))) }
-{
-    if bincode::room(buf.len(), at, 4 + votes::signed_vote_size(vote)) {
-        let b = bincode::write_u32(buf, at, 2);
-        votes::write_signed_vote(buf, b, vote)
-    } else {
-        at
-    }
-}
-
 // The position behind the message, or `at` where it has no room; then nothing is written.
 pub fn write_message(buf: &mut [u8], at: usize, m: Message) -> usize
     ensures { (buf.new ≡ written buf.old at (content_bytes (content_of m))) × (result ≡ written_to buf.old at (content_bytes (content_of m))) }
 {
-    let kind = m.kind;
-    let message = m.message;
-    let vote = m.vote;
-    match kind {
-        MessageKind::KeyGen => write_key_gen(buf, at, m.era, message, m.sig),
-        MessageKind::SignedVote => write_vote(buf, at, vote),
+    match m {
+        Message::KeyGen(era, message, sig) => write_key_gen(buf, at, era, message, sig),
+        Message::SignedVote(vote) => bincode::write_both(buf, at, 2u32, vote),
     }
 }

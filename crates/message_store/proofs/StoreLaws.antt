@@ -1,15 +1,23 @@
--- Laws of the message store as an array with a count.
+-- Laws of the message store: row 12, and what is handed out by place.
 -- Assumes nothing.
 use Prim.Native.Nat.{◌≤◌, ◌<◌}
-use mathlib.Core.Path.{◌≡◌}
+use mathlib.Core.Path.{◌≡◌, refl}
 use mathlib.Core.List.{List, [], ◌∷◌, ◌++◌}
 use mathlib.Core.Bool.{true, false}
 use lib.ListN.{length}
 use borrow.Author.Tests.{le-leb, lt-leb}
+use Rattle.std.specs.declared.option.Option.{Option}
+use Rattle.std.specs.declared.option.Option.TheVariants.{Some, None}
+use Rattle.lists.specs.Lists.{map_found, option_as_found}
 use Rattle.bincode.specs.Sizes.{Sizes}
 use Rattle.bincode.specs.Outcome.{done, refused}
 use Rattle.key_gen_message.specs.KeyGenMessage.{SignedKeyGenMsgOf}
 use Rattle.message_store.specs.MessageStore.{row12, pushed}
+
+-- a value found, seen through f
+pub found_as : {A B : Type 0} (f : A → B) (o : Option A) → option_as_found f o ≡ map_found f (option_as_found (λ (x : A). x) o)
+found_as f (Some a) = refl
+found_as f None = refl
 
 module _ (z : Sizes) (ms : List SignedKeyGenMsgOf) where
   -- row 12 does not hold where fewer are held than there are places

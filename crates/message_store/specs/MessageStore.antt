@@ -1,8 +1,9 @@
 -- 01: the message store, in order of arrival; row 12.
-use Rattle.std.specs.Prelude.{ℕ, ◌≡◌, List, [], ◌∷◌, ◌++◌, map, Bool, not, cond, length, take, replicate, leb}
+use Rattle.std.specs.Prelude.{ℕ, ◌≡◌, List, [], ◌∷◌, ◌++◌, map, Bool, not, cond, length, replicate, leb}
 use Rattle.std.specs.Prelude.{Ok, Err}
 use Rattle.std.specs.declared.result.Result.{Result}
 use Rattle.lists.specs.Lists.{filter}
+use Rattle.array_list.specs.ArrayList.{items_in}
 use Rattle.bincode.specs.Rows.{row_number}
 use Rattle.bincode.specs.declared.Refusal.{Refusal}
 use Rattle.bincode.specs.Sizes.{Sizes, base}
@@ -36,13 +37,13 @@ from_era era ms = filter (is_recent era) ms
 
 -- as code holds it: those below the count, as far as the array reaches
 abbrev pub held : MessageStore → List SignedKeyGenMsg
-held s = take s.count s.messages
+held s = items_in s.messages
 
 abbrev pub store_of : MessageStore → List SignedKeyGenMsgOf
 store_of s = map signed_of (held s)
 
 abbrev pub no_store : MessageStore
-no_store = record { count = 0; messages = replicate base.store (signed_held no_signed) }
+no_store = record { messages = record { count = 0; items = replicate base.store (signed_held no_signed) } }
 
 abbrev pub said_push : Result (Unit {0}) Refusal → MessageStore → Outcome (List SignedKeyGenMsgOf)
 said_push (Ok u) s = done (store_of s)

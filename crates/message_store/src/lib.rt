@@ -7,14 +7,13 @@ ghost use Rattle.bincode.specs.Sizes.{base};
 ghost use Rattle.key_gen_message.specs.KeyGenMessage.{signed_of};
 ghost use Rattle.message_store.specs.MessageStore.{store_of, no_store, pushed, pushed_of, PushRefusedKeeps, without, from_era};
 
+use array_list::ArrayList;
 use bincode::Refusal;
 use key_gen_message::SignedKeyGenMsg;
 
-// Places from `count` on do not count.
 #[derive(Clone, Copy)]
 pub struct MessageStore {
-    pub count: usize,
-    pub messages: [SignedKeyGenMsg; MessageStore::LIMIT],
+    pub messages: ArrayList<SignedKeyGenMsg, { MessageStore::LIMIT }>,
 }
 
 // The store after a message came; the very one that was given where it is refused.
@@ -29,17 +28,21 @@ impl MessageStore {
 
     // The messages of an array below a count.
     pub fn new(count: usize, messages: [SignedKeyGenMsg; MessageStore::LIMIT]) -> Self
-        ensures { result ≡ record { count = count; messages = messages } }
+        ensures { result ≡ record { messages = record { count = count; items = messages } } }
     {
-        MessageStore { count, messages }
+        MessageStore {
+            messages: ArrayList {
+                count,
+                items: messages,
+            },
+        }
     }
 
     pub fn empty() -> Self
         ensures { result ≡ no_store }
     {
         MessageStore {
-            count: 0,
-            messages: [SignedKeyGenMsg::empty(); MessageStore::LIMIT],
+            messages: ArrayList::empty(SignedKeyGenMsg::empty()),
         }
     }
 
@@ -47,7 +50,7 @@ impl MessageStore {
     pub fn len(self) -> usize
         ensures { (result ≡ length (store_of self)) × (result ≤ base.store) }
     {
-        self.count.min(MessageStore::LIMIT)
+        self.messages.len()
     }
 
     // A message behind those held; row 12 where there is no place.
@@ -56,8 +59,7 @@ impl MessageStore {
     {
         let held = self.len();
         if held < MessageStore::LIMIT {
-            self.messages[held] = m;
-            self.count = held + 1;
+            self.messages.push(m);
             return Pushed {
                 store: self,
                 outcome: Ok(()),
@@ -73,26 +75,14 @@ impl MessageStore {
     pub fn at(self, place: usize) -> Option<SignedKeyGenMsg>
         ensures { option_as_found signed_of result ≡ at_place place (store_of self) }
     {
-        if place < self.len() {
-            return Some(self.messages[place]);
-        }
-        None
+        self.messages.at(place)
     }
 
     // The messages that differ from a committed one.
     pub fn without(mut self, m: SignedKeyGenMsg) -> Self
         ensures { store_of result ≡ without (signed_of m) (store_of self) }
     {
-        let n = self.len();
-        let mut kept: usize = 0;
-        for i in 0..n {
-            let x = self.messages[i];
-            if !x.same(m) {
-                self.messages[kept] = x;
-                kept += 1;
-            }
-        }
-        self.count = kept;
+        self.messages.retain(|x| !x.same(m));
         self
     }
 
@@ -100,16 +90,7 @@ impl MessageStore {
     pub fn from_era(mut self, era: u64) -> Self
         ensures { store_of result ≡ from_era era (store_of self) }
     {
-        let n = self.len();
-        let mut kept: usize = 0;
-        for i in 0..n {
-            let x = self.messages[i];
-            if era <= x.era {
-                self.messages[kept] = x;
-                kept += 1;
-            }
-        }
-        self.count = kept;
+        self.messages.retain(|x| era <= x.era);
         self
     }
 }

@@ -6,32 +6,28 @@ use mathlib.Core.List.{List, [], ◌∷◌}
 use mathlib.Core.Bool.{Bool, true, false, cond}
 use native.Mathlib.Omega.{arith}
 use lib.Dec.{eqb}
-use lib.ListN.{length, take, drop, get_or, length-take}
+use lib.ListN.{length, take, get_or, length-take}
 use lib.Seq.{get_or-take}
-use borrow.Author.Tests.{eq-eqb, ne_eqb, eqb-true}
-use Rattle.lists.proofs.ListLaws.{rest_none}
+use borrow.Author.Tests.{eqb-true}
 use Rattle.std.specs.declared.option.Option.{Option}
 use Rattle.std.specs.declared.option.Option.TheVariants.{Some, None}
-use Rattle.std.specs.Option.{is_some}
+use Rattle.std.specs.List.{position_from}
+use Rattle.std.specs.Option.{is_some, option_map}
 use Rattle.pub_key_map.specs.declared.Node.{Node}
-use Rattle.pub_key_map.specs.PubKeyMap.{no_node}
-use Rattle.lists.specs.Lists.{Found, found, nothing, option_as_found}
+use Rattle.pub_key_map.specs.PubKeyMap.{id_of, no_node}
+use Rattle.lists.specs.Lists.{Found, found, nothing, map_found, option_as_found, lookup}
 use Rattle.network_info.specs.NetworkInfo.{index_from, key_of, is_member}
 
--- turns of the search
-module _ (ns : List Node) (i id : ℕ) where
-  module _ (n : Node) (h : drop i ns ≡ n ∷ drop (i + 1) ns) where
-    pub index_hit : n.id ≡ id → index_from i (drop i ns) id ≡ found i
-    unfolding index_from
-    index_hit e = rw (h, eq-eqb n.id id e)
-
-    pub index_miss : (n.id ≡ id → ⊥) → index_from i (drop i ns) id ≡ index_from (i + 1) (drop (i + 1) ns) id
-    unfolding index_from
-    index_miss e = rw (h, ne_eqb n.id id e)
-
-  pub index_end : length ns ≤ i → index_from i (drop i ns) id ≡ nothing
-  unfolding index_from
-  index_end h = rw (rest_none ns i h)
+-- the search answers the place of the first node with the id
+pub index_position : (ns : List Node) (i id : ℕ) → option_as_found (λ (x : ℕ). x) (position_from (λ n. eqb n.id id) i ns) ≡ index_from i ns id
+unfolding index_from
+index_position [] i id = refl
+index_position (n ∷ ns) i id = go (eqb n.id id) (index_position ns (i + 1) id)
+  where
+    go : (b : Bool) → option_as_found (λ (x : ℕ). x) (position_from (λ n. eqb n.id id) (i + 1) ns) ≡ index_from (i + 1) ns id
+        → option_as_found (λ (x : ℕ). x) (cond b (Some i) (position_from (λ n. eqb n.id id) (i + 1) ns)) ≡ cond b (found i) (index_from (i + 1) ns id)
+    go true h = refl
+    go false h = h
 
 never : {A : Type 0} (a : A) → ◌≡◌ {A = Found A} nothing (found a) → ⊥
 never a e = let z : ◌≡◌ {A = ℕ} 0 1 = cc in omega arith
@@ -103,3 +99,19 @@ index_id (n ∷ ns) j i id e = go (eqb n.id id) refl e (index_id ns (j + 1) i id
 -- two ids with one index are the same
 pub index_unique : (ns : List Node) (j i a b : ℕ) → index_from j ns a ≡ found i → index_from j ns b ≡ found i → a ≡ b
 index_unique ns j i a b e f = sym (index_id ns j i a e) ∙ index_id ns j i b f
+
+-- a node's key is that of the first node with the id
+pub key_looked_up : (ns : List Node) (id : ℕ) → map_found (λ (n : Node). n.key) (lookup id_of ns id) ≡ key_of ns id
+unfolding lookup key_of
+key_looked_up [] id = refl
+key_looked_up (n ∷ ns) id = go (eqb n.id id) (key_looked_up ns id)
+  where
+    go : (b : Bool) → map_found (λ (x : Node). x.key) (lookup id_of ns id) ≡ key_of ns id
+        → map_found (λ (x : Node). x.key) (cond b (found n) (lookup id_of ns id)) ≡ cond b (found n.key) (key_of ns id)
+    go true h = refl
+    go false h = h
+
+-- the key of what is found
+pub key_mapped : (o : Option Node) → option_as_found (λ (x : ℕ). x) (option_map (λ (n : Node). n.key) o) ≡ map_found (λ (n : Node). n.key) (option_as_found (λ (n : Node). n) o)
+key_mapped (Some n) = refl
+key_mapped None = refl

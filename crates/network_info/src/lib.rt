@@ -14,12 +14,7 @@ use pub_key_map::PubKeyMap;
 pub fn node_index(m: PubKeyMap, id: u32) -> Option<usize>
     ensures { option_as_found (λ (x : ℕ). x) result ≡ node_index (nodes_of m) id }
 {
-    for i in 0..m.len() {
-        if m.nodes[i].id == id {
-            return Some(i);
-        }
-    }
-    None
+    m.nodes.as_slice().iter().position(|n| n.id == id)
 }
 
 pub fn is_member(m: PubKeyMap, id: u32) -> bool
@@ -32,8 +27,7 @@ pub fn is_member(m: PubKeyMap, id: u32) -> bool
 pub fn node_key(m: PubKeyMap, id: u32) -> Option<u64>
     ensures { option_as_found (λ (x : ℕ). x) result ≡ key_of (nodes_of m) id }
 {
-    let i = node_index(m, id)?;
-    Some(m.nodes[i].key)
+    m.nodes.get(id).map(|n| n.key)
 }
 
 // f of the map: how many faulty nodes it tolerates.

@@ -13,7 +13,8 @@ use Rattle.lists.proofs.SortedLaws.{within_same, within_new}
 use Rattle.bincode.specs.Sizes.{Sizes}
 use Rattle.bincode.specs.Stands.{All}
 use Rattle.pub_key_map.specs.declared.Node.{Node}
-use Rattle.node_change.specs.NodeChange.{id_of, is_not, row13, with_node, without_node}
+use Rattle.pub_key_map.specs.PubKeyMap.{id_of}
+use Rattle.node_change.specs.NodeChange.{is_not, row13, with_node, without_node}
 
 -- what stands before a node's place is passed over
 has_behind : (k : ℕ) (before behind : List Node) → All (λ (x : Node). x.id < k) before → has_key id_of k (before ++ behind) ≡ has_key id_of k behind

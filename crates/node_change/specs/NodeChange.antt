@@ -3,9 +3,7 @@ use Rattle.std.specs.Prelude.{ℕ, List, Bool, false, cond, not, length, leb, eq
 use Rattle.lists.specs.Lists.{filter, has_key, insert_within}
 use Rattle.bincode.specs.Sizes.{Sizes}
 use Rattle.pub_key_map.specs.declared.Node.{Node}
-
-abbrev pub id_of : Node → ℕ
-id_of n = n.id
+use Rattle.pub_key_map.specs.PubKeyMap.{id_of}
 
 -- row 13: another node than those of the map would reach one more than a map may have
 unfoldable pub row13 : Sizes → List Node → ℕ → Bool

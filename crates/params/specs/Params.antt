@@ -3,7 +3,6 @@ use Rattle.std.specs.Prelude.{ℕ, ◌^◌, ◌<◌, List, [], ◌∷◌, cond, 
 use Rattle.bincode.specs.Read.{Read, value, refuse, bind}
 use Rattle.bincode.specs.Numbers.{Edition}
 use Rattle.bincode.specs.Stands.{concat}
-use Rattle.honey_badger.specs.declared.EncryptionSchedule.TheVariants.{Always}
 use Rattle.honey_badger.specs.EncryptionSchedule.{read_schedule, schedule_bytes, ScheduleOk}
 use Rattle.params.specs.declared.SubsetHandlingStrategy.{SubsetHandlingStrategy}
 use Rattle.params.specs.declared.SubsetHandlingStrategy.TheVariants.{Incremental, AllAtEnd}

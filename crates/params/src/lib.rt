@@ -68,22 +68,18 @@ pub fn read_params(s: &[u8], at: usize) -> Result<(Params, usize), Refusal>
 }
 
 // Parameters that are a whole input: nothing may be left over.
+#[tactic(auto, using(bincode::proofs::AnswerLaws::all_read_whole))]
 pub fn read_whole_params(s: &[u8]) -> Result<(Params, usize), Refusal>
     ensures { result ≡ answer (λ (x : Params). x) (whole (read_params fixed s.now) s.now) }
 {
-    let (p, c) = read_params(s, 0)?;
-    if c < s.len() {
-        return Err(Refusal::Malformed);
-    }
-    Ok((p, c))
+    bincode::all_read(s, read_params(s, 0))
 }
 
 // How many bytes parameters take.
 pub fn params_size(p: Params) -> usize
     ensures { (result ≡ length (params_bytes fixed p)) × (result ≤ 24) }
 {
-    let schedule = p.encryption_schedule;
-    12 + honey_badger::schedule_size(schedule)
+    12 + honey_badger::schedule_size(p.encryption_schedule)
 }
 
 // The position behind the parameters, or `at` where they have no room; then nothing is written.
@@ -91,11 +87,9 @@ pub fn write_params(buf: &mut [u8], at: usize, p: Params) -> usize
     ensures { (buf.new ≡ written buf.old at (params_bytes fixed p)) × (result ≡ written_to buf.old at (params_bytes fixed p)) }
 {
     if bincode::room(buf.len(), at, params_size(p)) {
-        let strategy = p.subset_handling_strategy;
-        let schedule = p.encryption_schedule;
         let c = bincode::write_u64(buf, at, p.max_future_epochs);
-        let d = bincode::write_u32(buf, c, strategy.tag());
-        honey_badger::write_schedule(buf, d, schedule)
+        let d = bincode::write_u32(buf, c, p.subset_handling_strategy.tag());
+        honey_badger::write_schedule(buf, d, p.encryption_schedule)
     } else {
         at
     }

@@ -92,7 +92,7 @@ module _ (era : ℕ) (s : StateOf) (e : Found ChangeOf) (h : e ≡ compute_winne
   decide_by_lem = ap (decide_by base era s) h
 
 -- what the definition gives, and what code gives beside it
-module _ (p : Params) (c : VoteCounter) (k : KeyGenState) (st : List SignedKeyGenMsgOf) (l : Found Stamp) (epoch : ℕ) (w : WorkOf) where
+module _ (p : Params) (c : VoteCounter) (k : Option KeyGenState) (st : List SignedKeyGenMsgOf) (l : Found Stamp) (epoch : ℕ) (w : WorkOf) where
   -- row 7
   pub void_as : empty_wins w.state ≡ true
       → RanAs (as_given p c k EmptyMapWins) p c k st w.state.store w.faults w.due (cond (empty_wins w.state) (denied (parts_of p c k st l) 7) (finished base (parts_of p c k st l) epoch w))
@@ -138,7 +138,7 @@ module _ (p : Params) (c : VoteCounter) (k : KeyGenState) (st : List SignedKeyGe
         })
 
 -- steps 6 to 8 on parts: `after` is the counter with the votes that stayed, `e` its winner
-module _ (s : List ℕ) (p : Params) (c after : VoteCounter) (k : KeyGenState) (epoch : ℕ) (m : Committed) (e : Option Change)
+module _ (s : List ℕ) (p : Params) (c after : VoteCounter) (k : Option KeyGenState) (epoch : ℕ) (m : Committed) (e : Option Change)
     (put : counter_of after ≡ foldl (put_in base s) (counter_of c) (entries_of m.tally)) (elected : elected_of e ≡ compute_winner (counter_of after)) where
   -- the state of the work is what the parts make
   whole : (w : WorkOf) → VotesHeld s (begun_with (counter_of c)) w c.era (nodes_of c.pub_keys) m.tally
@@ -168,7 +168,7 @@ module _ (s : List ℕ) (p : Params) (c after : VoteCounter) (k : KeyGenState) (
 
 -- a batch of which no vote stayed, with so few votes that nobody wins and key generation not ready, decides nothing: its state is the parts that were given, with
 -- key generation as the messages left it
-pub quiet_concluded : (s : List ℕ) (p : Params) (c : VoteCounter) (k : KeyGenState) (epoch : ℕ) (d : Committed) → Quiet d (nodes_of c.pub_keys) → d.due ≤ base.due
+pub quiet_concluded : (s : List ℕ) (p : Params) (c : VoteCounter) (k : Option KeyGenState) (epoch : ℕ) (d : Committed) → Quiet d (nodes_of c.pub_keys) → d.due ≤ base.due
     → Concluded s p c k epoch d (record { params = p; vote_counter = c; key_gen_state = d.state; told = nothing_decided epoch c.era c.pub_keys p d.faults d.due })
 quiet_concluded s p c k epoch d q few w st l held =
     let votes = tallied_length s c.era (nodes_of c.pub_keys) held.by_entry in

@@ -3,18 +3,26 @@
 use Prim.Native.Nat.{ℕ, ◌≤◌, min}
 use mathlib.Core.Path.{◌≡◌, refl, sym, ap, ◌∙◌}
 use mathlib.Core.List.{List, [], ◌∷◌, ◌++◌, map, map-append}
-use mathlib.Core.Bool.{Bool, true, false}
+use mathlib.Core.Bool.{Bool, true, false, cond}
 use native.Mathlib.Omega.{arith}
 use lib.Dec.{ltb}
 use lib.ListN.{length, take, drop, set, replicate, length-take, length-map, length-replicate, drop_of_length-le}
 use lib.Seq.{take_all, take-take}
 use Rattle.std.proofs.lemmas.List.{take-replicate}
 use borrow.Author.Tests.{ltb-true, ltb-false}
-use Rattle.filled.specs.Filled.{filled}
+use Rattle.filled.specs.Filled.{filled, shorter}
 use Rattle.filled.specs.Numbers.{due_kind, due_index, due_era, DueIn, DueAt}
 use Rattle.filled.proofs.FillLaws.{filled_next}
 use Rattle.due.specs.declared.DueItem.{DueItem}
 use Rattle.steps.specs.Held.{ack_item}
+
+-- the shorter of two lengths, as the library says it
+pub min_shorter : (a b : ℕ) → min a b ≡ shorter a b
+min_shorter a b = go (ltb a b) refl
+  where
+    go : (t : Bool) → ltb a b ≡ t → min a b ≡ cond t a b
+    go true e = omega (arith, ltb-true a b e)
+    go false e = omega (arith, ltb-false a b e)
 
 -- a list put into an old one, as far as both reach
 pub put_front : {A : Type 0} (xs old : List A) (end : ℕ) → end ≡ min (length xs) (length old) → take end xs ++ drop end old ≡ filled xs old

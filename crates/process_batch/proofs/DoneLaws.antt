@@ -56,7 +56,7 @@ none_noted era l = record { by_id = take_nothing l.ids; by_kind = take_nothing l
     take_nothing xs = refl
 
 -- what the steps came to: r for parts p, c, k of a state with the store st
-module _ (r : Settled) (p : Params) (c : VoteCounter) (k : KeyGenState) (st kept : List SignedKeyGenMsgOf) (fs : List Fault) (ds : List DueItem) (x : ProcessedOf)
+module _ (r : Settled) (p : Params) (c : VoteCounter) (k : Option KeyGenState) (st kept : List SignedKeyGenMsgOf) (fs : List Fault) (ds : List DueItem) (x : ProcessedOf)
     (h : RanAs r p c k st kept fs ds x) where
   -- faults and acks are told by their number
   pub told_faults : (o : Result Report Refusal) → r.told.report ≡ o → faults_told o ≡ length (list_by o fs)

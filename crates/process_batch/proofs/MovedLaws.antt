@@ -2,12 +2,13 @@
 -- Assumes nothing.
 use Prim.Native.Nat.{ℕ, ◌+◌, ◌^◌, ◌≤◌, ◌<◌}
 use mathlib.Core.Path.{◌≡◌, refl, sym, ap, ◌∙◌, subst}
-use mathlib.Core.List.{List, [], map}
+use mathlib.Core.List.{List, [], ◌∷◌}
 use mathlib.Core.Bool.{Bool, true, false, cond}
 use native.Mathlib.Omega.{arith}
 use lib.Dec.{ltb, lit<}
-use lib.ListN.{length, take}
+use lib.ListN.{length}
 use borrow.Author.Tests.{ltb-false}
+use Rattle.std.specs.declared.option.Option.{Option}
 use Rattle.std.specs.declared.result.Result.{Result}
 use Rattle.std.specs.declared.result.Result.TheVariants.{Ok, Err}
 use Rattle.bincode.specs.Sizes.{base}
@@ -92,7 +93,7 @@ module _ (s : DynamicHoneyBadger) (b : BatchCall) (bytes : Bytes b.bytes) (w : W
         faults = [];
         due = [];
         ran = subst
-            (λ (k : KeyGenState). RanAs (record { params = s.params; vote_counter = s.vote_counter; key_gen_state = k; told = denied_told n })
+            (λ (k : Option KeyGenState). RanAs (record { params = s.params; vote_counter = s.vote_counter; key_gen_state = k; told = denied_told n })
             s.params s.vote_counter s.key_gen_state (store_of s.store) [] [] [] (processed base (state_of s) b))
             (sym g.1) (ran_refused s b n g.0);
         noted = none_noted s.vote_counter.era l;
@@ -107,6 +108,11 @@ module _ (s : DynamicHoneyBadger) (b : BatchCall) (bytes : Bytes b.bytes) (w : W
 never_stirred : (n : Refusal) (some : Bool) → is_stirred (Err n) some ≡ true → ⊥
 never_stirred n some f = let o : ◌≡◌ {A = ℕ} 0 1 = cc in omega arith
 
+-- none is held where none is counted
+none_held : {A : Type 0} (xs : List A) → length xs ≡ 0 → xs ≡ []
+none_held [] e = refl
+none_held (x ∷ xs) e = absurd (let z : ⊥ = omega arith in z)
+
 -- the store behind a batch
 module _ (s : DynamicHoneyBadger) (b : BatchCall) (w : Worked) (l : Lists) (u : DynamicHoneyBadger) (t : Told) (h : Moved s b w l u t) where
   -- it is changed: it held something, and the batch is reported
@@ -118,11 +124,10 @@ module _ (s : DynamicHoneyBadger) (b : BatchCall) (w : Worked) (l : Lists) (u : 
   stirred (Err n) e some q k m = absurd (never_stirred n some q)
 
   -- it stays: the batch is refused, or it held nothing
-  pub unstirred : (o : Result Report Refusal) → t.report ≡ o → is_stirred o (ltb 0 s.store.count) ≡ false
+  pub unstirred : (o : Result Report Refusal) → t.report ≡ o → is_stirred o (ltb 0 (length (store_of s.store))) ≡ false
       → store_of u.store ≡ store_by o t.restarted t.era (store_of s.store) h.kept
   unstirred (Ok r) e q =
-      let z : s.store.count ≡ 0 = omega (arith, ltb-false 0 s.store.count q) in
-      let n : store_of s.store ≡ [] = ap (λ (i : ℕ). map Rattle.key_gen_message.specs.KeyGenMessage.signed_of (take i s.store.messages)) z in
+      let n = none_held (store_of s.store) (omega (arith, ltb-false 0 (length (store_of s.store)) q)) in
       ap store_of h.same_store ∙ n ∙ sym (h.none_left r e n)
   unstirred (Err n) e q = ap store_of h.same_store
 
@@ -154,7 +159,7 @@ module _ (s : DynamicHoneyBadger) (b : BatchCall) (w : Worked) (l : Lists) (u v 
         same_last = ap (λ (y : DynamicHoneyBadger). y.last) e ∙ h.same_last;
       }
 
-  pub stored_same : is_stirred t.report (ltb 0 s.store.count) ≡ false → v ≡ u → Stored s u v t h.kept
+  pub stored_same : is_stirred t.report (ltb 0 (length (store_of s.store))) ≡ false → v ≡ u → Stored s u v t h.kept
   stored_same q e =
       record {
         parts = ap (λ (y : DynamicHoneyBadger). parts_in y t) e;

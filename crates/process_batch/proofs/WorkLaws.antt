@@ -1,8 +1,10 @@
--- All rows but 7 with steps 2 to 5: what was opened and what was committed, of every state that has the era, the map, key generation and the committed votes.
+-- All rows but 7 with steps 2 to 5: what was opened and what was committed, of every state that has the counter and the key generation.
 -- Assumes nothing.
-use Prim.Native.Nat.{ℕ, ◌+◌, ◌^◌, ◌<◌}
+use Prim.Native.Nat.{ℕ, ◌+◌, ◌^◌, ◌≤◌, ◌<◌}
+use lib.ListN.{length}
 use mathlib.Core.Path.{◌≡◌, refl, sym, ap, ◌∙◌, subst}
-use mathlib.Core.List.{List, []}
+use mathlib.Core.List.{List, [], map}
+use Rattle.std.specs.declared.option.Option.{Option}
 use Rattle.std.specs.declared.result.Result.{Result}
 use Rattle.std.specs.declared.result.Result.TheVariants.{Ok, Err}
 use Rattle.bincode.specs.Outcome.{Outcome, done}
@@ -10,6 +12,10 @@ use Rattle.bincode.specs.declared.Refusal.{Refusal}
 use Rattle.bincode.specs.Sizes.{base}
 use Rattle.bincode.specs.Stands.{Bytes}
 use Rattle.pub_key_map.specs.declared.Node.{Node}
+use Rattle.pub_key_map.specs.PubKeyMap.{nodes_of}
+use Rattle.signed_votes.specs.SignedVotes.{votes_of}
+use Rattle.vote_counter.specs.declared.VoteCounter.{VoteCounter}
+use Rattle.vote_counter.specs.VoteCounter.{CounterOf, counter_of}
 use Rattle.key_gen_state.specs.declared.KeyGenState.{KeyGenState}
 use Rattle.key_gen_state.specs.KeyGenState as running
 use Rattle.internal_contrib.specs.InternalContrib.{read_batch}
@@ -19,7 +25,7 @@ use Rattle.dynamic_honey_badger.specs.State.{era_of, nodes_in}
 use Rattle.steps.specs.Steps.{committed}
 use Rattle.commit.specs.declared.Committed.{Committed}
 use Rattle.commit.specs.declared.tally.Tally.{Tally}
-use Rattle.commit.specs.Tally.{begun_with}
+use Rattle.commit.specs.Tally.{entries_of, kept_entry, begun_with}
 use Rattle.commit.specs.Batch.{Lists, Holds, BatchCommitted}
 use Rattle.process_output.specs.declared.Opened.{Opened}
 use Rattle.process_output.specs.Refusals.{batch_row7}
@@ -44,12 +50,22 @@ module _ (b : BatchCall) (era : ℕ) (o : Opened) (h : OpenedAs o (opened base e
           epoch_fits epoch (ap row5 v.4 ∙ v.3)
       go (Err n) q = tt
 
-  module _ (ns : List Node) (k : KeyGenState) (bytes : Bytes b.bytes) (t : Tally) (d : Committed) (l l' : Lists)
-      (c : BatchCommitted b.bytes era ns b.verdicts t (running.state_of k) o.index d l l') (same : contribs_in o.index ≡ [] → d.state ≡ k) where
-    pub worked_as : WorkedAs b era ns t k (record { opening = o.opening; index = o.index; committed = d }) l l'
+  module _ (v : VoteCounter) (at : era ≡ v.era) (k : Option KeyGenState) (bytes : Bytes b.bytes) (t : Tally) (d : Committed) (l l' : Lists)
+      (c : BatchCommitted b.bytes era (nodes_of v.pub_keys) b.verdicts t (running.state_of k) o.index d l l') (same : contribs_in o.index ≡ [] → d.state ≡ k)
+      (kept : entries_of t ≡ map kept_entry (votes_of v.committed)) (few : length (entries_of t) ≤ base.nodes) where
+    pub worked_as : WorkedAs b v k (record { opening = o.opening; index = o.index; committed = d }) l l'
     unfolding batch_row7
-    worked_as st e m g v r = go o.opening refl
+    worked_as st q g = go o.opening refl
       where
+        e : era_of st ≡ era
+        e = ap (λ (x : CounterOf). x.era) q ∙ sym at
+
+        m : nodes_in st ≡ nodes_of v.pub_keys
+        m = ap (λ (x : CounterOf). x.nodes) q
+
+        held : entries_of t ≡ map kept_entry st.counter.committed
+        held = kept ∙ sym (ap (λ (x : CounterOf). map kept_entry x.committed) q)
+
         said : opened base era b ≡ opened base (era_of st) b
         said = ap (λ (x : ℕ). opened base x b) (sym e)
 
@@ -67,7 +83,7 @@ module _ (b : BatchCall) (era : ℕ) (o : Opened) (h : OpenedAs o (opened base e
               read = x.read;
               placed = by_state.1 ∙ (λ j. places_of (was j) (x.read j));
               holds = subst (λ (y : ℕ). Holds b.bytes y (nodes_in st) b.verdicts (begun_with st.counter) l w d l') (sym e)
-                  (subst (λ (y : List Node). Holds b.bytes era y b.verdicts (begun_with st.counter) l w d l') (sym m) (c st x.cs e m g v r x.kept));
+                  (subst (λ (y : List Node). Holds b.bytes era y b.verdicts (begun_with st.counter) l w d l') (sym m) (c st x.cs e m g held few x.kept));
               answer = x.comes;
             }
 

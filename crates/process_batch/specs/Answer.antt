@@ -73,7 +73,7 @@ abbrev pub denied_told : Refusal → Told
 denied_told n = record { report = Err n; restarted = false; era = 0; acks = 0 }
 
 -- a refusal leaves the parts as they were
-abbrev pub as_given : Params → VoteCounter → KeyGenState → Refusal → Settled
+abbrev pub as_given : Params → VoteCounter → Option KeyGenState → Refusal → Settled
 as_given p c k n = record { params = p; vote_counter = c; key_gen_state = k; told = denied_told n }
 
 -- how many items are due: the acks, and a part behind them where one is due, as far as the lent list reaches

@@ -1,12 +1,12 @@
 -- A batch call cut in three: all rows but 7 with steps 2 to 5, steps 6 to 8 with row 7, and the store; each tied to the batch step's own definition.
-use Rattle.std.specs.Prelude.{ℕ, ◌≤◌, ◌≡◌, List, [], ◌++◌, map, Bool, cond, length, Ok, Err}
+use Rattle.std.specs.Prelude.{ℕ, ◌≤◌, ◌≡◌, List, [], ◌++◌, Bool, cond, length, Ok, Err}
+use Rattle.std.specs.declared.option.Option.{Option}
 use Rattle.std.specs.declared.result.Result.{Result}
 use Rattle.lists.specs.Lists.{Found}
 use Rattle.bincode.specs.Read.{value}
 use Rattle.bincode.specs.Rows.{row_number}
 use Rattle.bincode.specs.Sizes.{base}
 use Rattle.bincode.specs.declared.Refusal.{Refusal}
-use Rattle.pub_key_map.specs.declared.Node.{Node}
 use Rattle.pub_key_map.specs.PubKeyMap.{nodes_of}
 use Rattle.fault_log.specs.declared.Fault.{Fault}
 use Rattle.due.specs.declared.DueItem.{DueItem}
@@ -22,8 +22,7 @@ use Rattle.internal_contrib.specs.Index.{contribs_in, placed_from}
 use Rattle.dynamic_honey_badger.specs.State.{StateOf, Stamp, era_of, nodes_in}
 use Rattle.steps.specs.Steps.{WorkOf, committed}
 use Rattle.commit.specs.declared.Committed.{Committed}
-use Rattle.commit.specs.declared.tally.Tally.{Tally}
-use Rattle.commit.specs.Tally.{entries_of, kept_entry, begun_with, VotesHeld}
+use Rattle.commit.specs.Tally.{begun_with, VotesHeld}
 use Rattle.commit.specs.Batch.{Lists, Holds}
 use Rattle.decision.specs.Decision.{parts_of, empty_wins}
 use Rattle.process_output.specs.Process.{BatchCall, ProcessedOf, processed, denied, finished}
@@ -44,15 +43,13 @@ pub record Working (st : StateOf) (b : BatchCall) (epoch : ℕ) (w : Worked) (l 
       ≡ cond (empty_wins (committed base st b.verdicts contribs).state) (denied st 7) (finished base st epoch (committed base st b.verdicts contribs))
 
 -- one that they refuse keeps the very key generation that was given
-abbrev pub WorkedBy : StateOf → BatchCall → KeyGenState → Worked → Lists → Lists → Result ℕ Refusal → Type 0
+abbrev pub WorkedBy : StateOf → BatchCall → Option KeyGenState → Worked → Lists → Lists → Result ℕ Refusal → Type 0
 WorkedBy st b k w l l' (Ok epoch) = Working st b epoch w l l'
 WorkedBy st b k w l l' (Err n) = (processed base st b ≡ denied st (row_number n)) × (w.committed.state ≡ k)
 
--- of every state with this era, map and key generation, whose committed votes the tally holds
-abbrev pub WorkedAs : BatchCall → ℕ → List Node → Tally → KeyGenState → Worked → Lists → Lists → Type 0
-WorkedAs b era ns t k w l l' =
-    (st : StateOf) → era_of st ≡ era → nodes_in st ≡ ns → st.key_gen ≡ running.state_of k
-    → entries_of t ≡ map kept_entry st.counter.committed → length (entries_of t) ≤ base.nodes → WorkedBy st b k w l l' w.opening
+-- of every state with this counter and this key generation
+abbrev pub WorkedAs : BatchCall → VoteCounter → Option KeyGenState → Worked → Lists → Lists → Type 0
+WorkedAs b c k w l l' = (st : StateOf) → st.counter ≡ counter_of c → st.key_gen ≡ running.state_of k → WorkedBy st b k w l l' w.opening
 
 -- the store after a batch of which `kept` is left; a refusal leaves it
 abbrev pub store_by : Result Report Refusal → Bool → ℕ → List SignedKeyGenMsgOf → List SignedKeyGenMsgOf → List SignedKeyGenMsgOf
@@ -66,7 +63,7 @@ list_by (Err n) xs = []
 
 -- what the steps give, of the definition's answer x, for a store st of which `kept` is left: the parts of the state, the report, and what goes into the lists; a
 -- refusal leaves the very parts that were given
-pub record RanAs (r : Settled) (p : Params) (c : VoteCounter) (k : KeyGenState) (st kept : List SignedKeyGenMsgOf) (fs : List Fault) (ds : List DueItem) (x : ProcessedOf) : Type 0 where
+pub record RanAs (r : Settled) (p : Params) (c : VoteCounter) (k : Option KeyGenState) (st kept : List SignedKeyGenMsgOf) (fs : List Fault) (ds : List DueItem) (x : ProcessedOf) : Type 0 where
   pub by_params : r.params ≡ x.state.params
   pub by_counter : counter_of r.vote_counter ≡ x.state.counter
   pub by_key_gen : running.state_of r.key_gen_state ≡ x.state.key_gen
@@ -79,7 +76,7 @@ pub record RanAs (r : Settled) (p : Params) (c : VoteCounter) (k : KeyGenState) 
   pub by_acks : (t : Report) → r.told.report ≡ Ok t → (length fs ≡ t.faults) × (length ds ≡ r.told.acks)
 
 -- steps 6 to 8 and row 7, for every work w that the loop over contributions may have held
-abbrev pub Concluded : List ℕ → Params → VoteCounter → KeyGenState → ℕ → Committed → Settled → Type 0
+abbrev pub Concluded : List ℕ → Params → VoteCounter → Option KeyGenState → ℕ → Committed → Settled → Type 0
 Concluded bytes p c k epoch d r =
     (w : WorkOf) (st : List SignedKeyGenMsgOf) (l : Found Stamp) → VotesHeld bytes (begun_with (counter_of c)) w c.era (nodes_of c.pub_keys) d.tally
     → w.state.counter ≡ with_committed (counter_of c) w.state.counter.committed w.state.counter.board → w.state.params ≡ p → w.state.key_gen ≡ running.state_of d.state

@@ -3,8 +3,11 @@
 // changed are put back into it, since each hand that a large value passes through is a copy.
 #![tactic(auto)]
 
-ghost use Rattle.std.specs.Prelude.{◌≡◌, true, false, cond, ◌+◌, ◌^◌, ◌≤◌, ◌<◌, ltb};
+ghost use Rattle.std.specs.Prelude.{◌≡◌, true, false, cond, ◌+◌, ◌^◌, ◌≤◌, ◌<◌, ltb, length};
 ghost use Rattle.bincode.specs.Sizes.{base};
+ghost use Rattle.bincode.specs.Stands.{Bytes};
+ghost use Rattle.filled.specs.Filled.{shorter};
+ghost use Rattle.filled.specs.Numbers.{due_places};
 ghost use Rattle.pub_key_map.specs.PubKeyMap.{nodes_of};
 ghost use Rattle.key_gen_state.specs.KeyGenState as running;
 ghost use Rattle.message_store.specs.MessageStore.{store_of};
@@ -15,12 +18,12 @@ ghost use Rattle.process_batch.specs.Answer.{denied_told, nothing_decided, quiet
 ghost use Rattle.process_batch.specs.Worked.{WorkedAs, Concluded};
 ghost use Rattle.process_batch.specs.Lent.{BatchDone};
 
-use crate::copying::{copy_ids, copy_kinds, write_due};
+use crate::copying::{write_due, write_faults};
 use batch::Batch;
 use bincode::Refusal;
 use change::{Change, ChangeState};
-use commit::Committed;
 use commit::tally::Tally;
+use commit::{Committed, Terms};
 use decision::Decision;
 use due::DueList;
 use dynamic_honey_badger::{DynamicHoneyBadger, ReportStamp};
@@ -29,11 +32,27 @@ use internal_contrib::BatchIndex;
 use key_gen_state::KeyGenState;
 use message_store::MessageStore;
 use params::Params;
+use process_output::Agreed;
 use pub_key_map::PubKeyMap;
 use recipe::Recipe;
 use vote_counter::VoteCounter;
 
 mod copying;
+
+// The call's own lists: ids and kinds of faults, and the proposers that acks are for.
+#[derive(Clone, Copy)]
+struct Own {
+    ids: [u32; FaultLog::LIMIT],
+    kinds: [u8; FaultLog::LIMIT],
+    indices: [u64; DueList::LIMIT],
+}
+
+// For how many faults, and how many due items, the lent lists have places.
+#[derive(Clone, Copy)]
+struct Places {
+    faults: usize,
+    due: usize,
+}
 
 // A report with what stands beside it, faults and due items by their numbers.
 #[derive(Clone, Copy)]
@@ -67,7 +86,7 @@ pub struct Told {
 pub struct Settled {
     pub params: Params,
     pub vote_counter: VoteCounter,
-    pub key_gen_state: KeyGenState,
+    pub key_gen_state: Option<KeyGenState>,
     pub told: Told,
 }
 
@@ -111,66 +130,56 @@ fn denied(r: Refusal) -> Told
 }
 
 // A batch that decides nothing.
-fn nothing_decided(
-    epoch: u64,
-    era: u64,
-    pub_keys: PubKeyMap,
-    params: Params,
-    faults: usize,
-    acks: usize,
-) -> Told
+fn nothing_decided(epoch: u64, counter: &VoteCounter, params: Params, c: &Committed) -> Told
     requires { epoch + 1 < 2 ^ 64 }
-    ensures { result ≡ nothing_decided epoch era pub_keys params faults acks }
+    ensures { result ≡ nothing_decided epoch counter.now.era counter.now.pub_keys params c.now.faults c.now.due }
 {
     Told {
         report: Ok(Report {
             batch: Batch {
                 epoch,
-                era,
+                era: counter.era,
                 change: ChangeState::none(),
-                pub_keys,
+                pub_keys: counter.pub_keys,
                 params,
             },
-            faults,
-            due: acks,
+            faults: c.faults,
+            due: c.due,
             recipe: None,
         }),
         restarted: false,
         era: epoch + 1,
-        acks,
+        acks: c.due,
     }
 }
 
 // What is told of a batch that is refused or decides nothing.
-fn quiet(w: Worked, era: u64, pub_keys: PubKeyMap, params: Params) -> Told
-    requires { EpochFits w.opening }
-    ensures { result ≡ quiet_told w.opening w.committed era pub_keys params }
+fn quiet(w: &Worked, counter: &VoteCounter, params: Params) -> Told
+    requires { EpochFits w.now.opening }
+    ensures { result ≡ quiet_told w.now.opening w.now.committed counter.now.era counter.now.pub_keys params }
 {
-    let opening = w.opening;
-    let c = w.committed;
-    match opening {
+    match w.opening {
         Err(r) => denied(r),
-        Ok(epoch) => nothing_decided(epoch, era, pub_keys, params, c.faults, c.due),
+        Ok(epoch) => nothing_decided(epoch, counter, params, &w.committed),
     }
 }
 
 // Whether a batch is refused by then or decides nothing: no vote stayed, key generation is not ready, and so few votes stand that nobody can win.
-fn is_quiet(w: Worked, map: PubKeyMap) -> bool
-    ensures { (result ≡ true → QuietBy w.opening w.committed (nodes_of map)) × (result ≡ false → IsEpoch w.opening) }
+fn is_quiet(w: &Worked, map: PubKeyMap) -> bool
+    ensures { (result ≡ true → QuietBy w.now.opening w.now.committed (nodes_of map)) × (result ≡ false → IsEpoch w.now.opening) }
 {
-    let opening = w.opening;
-    let c = w.committed;
-    let t = c.tally;
-    let state = c.state;
-    opening.is_err()
-        || (!t.has_fresh() && !state.is_ready() && t.len() <= network_info::num_faulty(map))
+    let c = &w.committed;
+    w.opening.is_err()
+        || (!c.tally.has_fresh()
+            && !key_gen_state::is_ready(&c.state)
+            && c.tally.len() <= network_info::num_faulty(map))
 }
 
 // Row 7: an empty map wins, and key generation is not ready.
-fn is_void(state: KeyGenState, e: Option<Change>) -> bool
-    ensures { result ≡ cond (running.ready_state (running.state_of state)) false (is_empty_map (elected_of e)) }
+fn is_void(state: &Option<KeyGenState>, e: Option<Change>) -> bool
+    ensures { result ≡ cond (running.ready_state (running.state_of state.now)) false (is_empty_map (elected_of e)) }
 {
-    !state.is_ready() && decision::is_empty_map(e)
+    !key_gen_state::is_ready(state) && decision::is_empty_map(e)
 }
 
 // How many items are due: the acks, and a part behind them where one is due.
@@ -189,7 +198,7 @@ fn due_count(acks: usize, part_due: bool) -> usize
 fn as_given(
     params: Params,
     vote_counter: VoteCounter,
-    key_gen_state: KeyGenState,
+    key_gen_state: Option<KeyGenState>,
     r: Refusal,
 ) -> Settled
     ensures { result ≡ as_given params vote_counter key_gen_state r }
@@ -203,32 +212,26 @@ fn as_given(
 }
 
 // What was decided, with the report: map and parameters are those after the batch, the era is that of the batch.
-fn with_report(d: Decision, era: u64, epoch: u64, c: Committed) -> Settled
-    requires { (epoch + 1 < 2 ^ 64) × (c.due ≤ base.due) }
-    ensures { result ≡ settled_by d era epoch c }
+fn with_report(d: Decision, era: u64, epoch: u64, c: &Committed) -> Settled
+    requires { (epoch + 1 < 2 ^ 64) × (c.now.due ≤ base.due) }
+    ensures { result ≡ settled_by d era epoch c.now }
 {
-    let params = d.params;
-    let vote_counter = d.vote_counter;
-    let key_gen_state = d.key_gen_state;
-    let change = d.change;
-    let recipe = d.recipe;
-    let pub_keys = vote_counter.pub_keys;
     Settled {
-        params,
-        vote_counter,
-        key_gen_state,
+        params: d.params,
+        vote_counter: d.vote_counter,
+        key_gen_state: d.key_gen_state,
         told: Told {
             report: Ok(Report {
                 batch: Batch {
                     epoch,
                     era,
-                    change,
-                    pub_keys,
-                    params,
+                    change: d.change,
+                    pub_keys: d.vote_counter.pub_keys,
+                    params: d.params,
                 },
                 faults: c.faults,
                 due: due_count(c.due, d.part_due),
-                recipe,
+                recipe: d.recipe,
             }),
             restarted: d.restarted,
             era: epoch + 1,
@@ -241,23 +244,21 @@ fn with_report(d: Decision, era: u64, epoch: u64, c: Committed) -> Settled
 fn settle(
     params: Params,
     counter: VoteCounter,
-    before: KeyGenState,
-    epoch: u64,
+    before: Option<KeyGenState>,
     s: &[u8],
-    c: Committed,
+    w: &Worked,
 ) -> Settled
-    requires { (epoch + 1 < 2 ^ 64) × (c.due ≤ base.due) }
-    ensures { Concluded s.now params counter before epoch c result }
+    requires { (epoch_of w.now.opening + 1 < 2 ^ 64) × (w.now.committed.due ≤ base.due) }
+    ensures { Concluded s.now params counter before (epoch_of w.now.opening) w.now.committed result }
 {
-    let t = c.tally;
-    let state = c.state;
-    let after = commit::voting::put_votes(counter, s, t);
+    let epoch = epoch_of(w.opening);
+    let after = commit::voting::put_votes(counter, s, w.committed.tally);
     let e = decision::elect(after);
-    if is_void(state, e) {
+    if is_void(&w.committed.state, e) {
         return as_given(params, counter, before, Refusal::EmptyMapWins);
     }
-    let d = decision::decide(params, after, state, epoch + 1, e);
-    with_report(d, counter.era, epoch, c)
+    let d = decision::decide(params, after, w.committed.state, epoch + 1, e);
+    with_report(d, counter.era, epoch, &w.committed)
 }
 
 // The epoch of a batch that no row but 7 refuses.
@@ -267,44 +268,56 @@ fn epoch_of(opening: Result<u64, Refusal>) -> u64
     opening.unwrap_or(0)
 }
 
+// For how many faults the host lent places, and for how many due items: as many as the shortest list of each has.
+fn lent_places(
+    fault_ids: &[u32],
+    fault_kinds: &[u8],
+    due_kinds: &[u8],
+    due_indices: &[u64],
+    due_eras: &[u64],
+) -> Places
+    ensures { (result.faults ≡ shorter (length fault_ids.now) (length fault_kinds.now))
+        × (result.due ≡ due_places due_kinds.now due_indices.now due_eras.now) }
+{
+    Places {
+        faults: fault_ids.len().min(fault_kinds.len()),
+        due: due_kinds.len().min(due_indices.len()).min(due_eras.len()),
+    }
+}
+
 // All rows but 7, then steps 2 to 5; a refused batch has no contribution noted.
 fn work(
-    era: u64,
-    map: PubKeyMap,
-    tally: Tally,
-    state: KeyGenState,
-    batch_era: u64,
-    inner: u64,
-    batch: &[u8],
-    verdicts: &[u8],
-    fault_places: usize,
-    due_places: usize,
-    ids: &mut [u32],
-    kinds: &mut [u8],
-    indices: &mut [u64],
+    agreed: Agreed,
+    lent: Places,
+    counter: &VoteCounter,
+    state: Option<KeyGenState>,
+    own: &mut Own,
 ) -> Worked
-    ensures { WorkedAs (call_of batch_era inner batch.now verdicts.now fault_places due_places) era (nodes_of map) tally state result
-        (record { ids = ids.entry.now; kinds = kinds.old; indices = indices.old })
-        (record { ids = ids.exit.now; kinds = kinds.new; indices = indices.new })
-        × EpochFits result.opening × (result.committed.faults ≤ base.faults) × (result.committed.due ≤ base.due) }
+    ensures { WorkedAs (call_of agreed.entry.era agreed.entry.epoch agreed.entry.batch.now agreed.entry.verdicts.now lent.faults lent.due) counter.now state result
+        (record { ids = own.old.ids; kinds = own.old.kinds; indices = own.old.indices })
+        (record { ids = own.new.ids; kinds = own.new.kinds; indices = own.new.indices })
+        × EpochFits result.opening × (result.committed.faults ≤ base.faults) × (result.committed.due ≤ base.due)
+        × Bytes agreed.entry.batch.now }
 {
-    let o = process_output::open_batch(
-        era,
-        batch_era,
-        inner,
-        batch,
-        verdicts,
-        fault_places,
-        due_places,
-    );
-    let opening = o.opening;
-    let index = o.index;
+    let o = process_output::open_batch(counter.era, agreed, lent.faults, lent.due);
+    let terms = Terms {
+        bytes: agreed.batch,
+        verdicts: agreed.verdicts,
+        era: counter.era,
+        map: counter.pub_keys,
+    };
     let committed = commit::commit_batch(
-        batch, verdicts, index, era, map, tally, state, ids, kinds, indices,
+        &terms,
+        o.index,
+        Tally::of(counter.committed),
+        state,
+        &mut own.ids,
+        &mut own.kinds,
+        &mut own.indices,
     );
     Worked {
-        opening,
-        index,
+        opening: o.opening,
+        index: o.index,
         committed,
     }
 }
@@ -317,12 +330,12 @@ fn stirs(held: usize, report: &Result<Report, Refusal>) -> bool
 }
 
 // In place: the stored messages without the batch's, and without those of lower eras where an era began.
-fn keep(store: &mut MessageStore, batch: &[u8], index: BatchIndex, restarted: bool, era: u64)
-    ensures { store_of store.new ≡ kept_by batch.now (contribs_in index) restarted era (store_of store.old) }
+fn keep(store: &mut MessageStore, batch: &[u8], w: &Worked, told: &Told)
+    ensures { store_of store.new ≡ kept_by batch.now (contribs_in w.now.index) told.now.restarted told.now.era (store_of store.old) }
 {
-    *store = store_filter::without_batch(*store, batch, index);
-    if restarted {
-        *store = store.from_era(era);
+    *store = store_filter::without_batch(*store, batch, w.index);
+    if told.restarted {
+        *store = store.from_era(told.era);
     }
 }
 
@@ -339,20 +352,17 @@ fn last_after(last: Option<ReportStamp>, told: &Told) -> Option<ReportStamp>
     }
 }
 
-// A batch, with the era in which it was agreed and its inner epoch there. Row 1 where a lent list is shorter than its size.
+// A batch as it was agreed. Row 1 where a lent list is shorter than its size.
 pub fn process_batch(
     mut state: DynamicHoneyBadger,
-    batch_era: u64,
-    inner: u64,
-    batch: &[u8],
-    verdicts: &[u8],
+    agreed: Agreed,
     fault_ids: &mut [u32],
     fault_kinds: &mut [u8],
     due_kinds: &mut [u8],
     due_indices: &mut [u64],
     due_eras: &mut [u64],
 ) -> Processed
-    ensures { BatchDone state batch_era inner batch.now verdicts.now
+    ensures { BatchDone state agreed.entry.era agreed.entry.epoch agreed.entry.batch.now agreed.entry.verdicts.now
         (record {
           fault_ids = fault_ids.old;
           fault_kinds = fault_kinds.old;
@@ -369,69 +379,31 @@ pub fn process_batch(
           due_eras = due_eras.new;
         }) }
 {
-    let mut ids = [0u32; FaultLog::LIMIT];
-    let mut kinds = [0u8; FaultLog::LIMIT];
-    let mut indices = [0u64; DueList::LIMIT];
-    let fault_places = filled::shorter_of(fault_ids.len(), fault_kinds.len());
-    let shorter = filled::shorter_of(due_kinds.len(), due_indices.len());
-    let due_places = filled::shorter_of(shorter, due_eras.len());
-    let store = state.store;
-    let held = store.count;
-    let params = state.params;
-    let counter = state.vote_counter;
-    let era = counter.era;
+    let mut own = Own {
+        ids: [0; FaultLog::LIMIT],
+        kinds: [0; FaultLog::LIMIT],
+        indices: [0; DueList::LIMIT],
+    };
+    let lent = lent_places(fault_ids, fault_kinds, due_kinds, due_indices, due_eras);
+    let held = state.store.len();
+    let era = state.vote_counter.era;
     let before = state.key_gen_state;
-    let map = counter.pub_keys;
-    let committed = counter.committed;
-    let w = work(
-        era,
-        map,
-        Tally::of(committed),
-        before,
-        batch_era,
-        inner,
-        batch,
-        verdicts,
-        fault_places,
-        due_places,
-        &mut ids,
-        &mut kinds,
-        &mut indices,
-    );
-    let mut told = quiet(w, era, map, params);
-    if is_quiet(w, map) {
-        let c = w.committed;
-        let next = c.state;
-        state.key_gen_state = next;
+    let w = work(agreed, lent, &state.vote_counter, before, &mut own);
+    let mut told = quiet(&w, &state.vote_counter, state.params);
+    if is_quiet(&w, state.vote_counter.pub_keys) {
+        state.key_gen_state = w.committed.state;
     } else {
-        let opening = w.opening;
-        let c = w.committed;
-        let counter = state.vote_counter;
-        let d = settle(params, counter, before, epoch_of(opening), batch, c);
-        let next_params = d.params;
-        let next_counter = d.vote_counter;
-        let next_state = d.key_gen_state;
-        state.params = next_params;
-        state.vote_counter = next_counter;
-        state.key_gen_state = next_state;
+        let d = settle(state.params, state.vote_counter, before, agreed.batch, &w);
+        state.params = d.params;
+        state.vote_counter = d.vote_counter;
+        state.key_gen_state = d.key_gen_state;
         told = d.told;
     }
     if stirs(held, &told.report) {
-        keep(&mut state.store, batch, w.index, told.restarted, told.era);
+        keep(&mut state.store, agreed.batch, &w, &told);
     }
-    let faults = fault_count(&told.report);
-    copy_ids(fault_ids, &ids, faults);
-    copy_kinds(fault_kinds, &kinds, faults);
-    write_due(
-        told.acks,
-        due_told(&told.report),
-        era,
-        told.era,
-        &indices,
-        due_kinds,
-        due_indices,
-        due_eras,
-    );
+    write_faults(&told, &own, fault_ids, fault_kinds);
+    write_due(&told, era, &own, due_kinds, due_indices, due_eras);
     state.last = last_after(state.last, &told);
     Processed {
         state,

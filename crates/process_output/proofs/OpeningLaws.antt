@@ -8,7 +8,7 @@ use mathlib.Core.Bool.{Bool, true, false, not, cond, ◌||◌}
 use native.Mathlib.Omega.{arith}
 use lib.Dec.{ltb, eqb, lit<}
 use lib.ListN.{length}
-use Rattle.lists.proofs.ListLaws.{cond_yes, cond_no}
+use Rattle.lists.proofs.ListLaws.{cond_yes, cond_no, false_true}
 use Rattle.bincode.specs.Read.{Read, value, refuse}
 use Rattle.std.specs.declared.result.Result.{Result}
 use Rattle.std.specs.declared.result.Result.TheVariants.{Ok, Err}
@@ -16,78 +16,76 @@ use Rattle.std.specs.Result.{is_err}
 use Rattle.bincode.specs.Outcome.{Outcome, done, refused}
 use Rattle.bincode.specs.Rows.{row_number}
 use Rattle.bincode.specs.declared.Refusal.{Refusal}
+use Rattle.bincode.specs.declared.Refusal.TheVariants.{ShortBuffer}
+use Rattle.bincode.proofs.ReadLaws.{cross}
 use Rattle.bincode.specs.Sizes.{Sizes, base}
 use Rattle.bincode.specs.Stands.{Bytes}
 use Rattle.internal_contrib.specs.declared.BatchIndex.{BatchIndex}
 use Rattle.internal_contrib.specs.declared.Contrib.{Contrib}
 use Rattle.internal_contrib.specs.InternalContrib.{ContribOf, read_batch}
-use Rattle.internal_contrib.specs.Index.{placed_from, placed_in, contribs_in, EachKept}
+use Rattle.internal_contrib.specs.Index.{placed_from, contribs_in, EachKept, Indexed}
 use Rattle.internal_contrib.proofs.KeptLaws.{batch_kept}
-use Rattle.dynamic_honey_badger.specs.Asked.{row5, epoch_in, said_next}
+use Rattle.internal_contrib.proofs.BatchLaws.{check_refuse}
+use Rattle.dynamic_honey_badger.specs.Asked.{row5, epoch_in}
 use Rattle.dynamic_honey_badger.specs.State.{StateOf, era_of}
 use Rattle.steps.specs.Steps.{committed}
 use Rattle.process_output.specs.Refusals.{some, no_verdict, batch_row1, batch_row4, batch_row15, batch_row7}
 use Rattle.process_output.specs.Process.{BatchCall, ProcessedOf, denied, finished, processed_contribs, processed_read, processed}
 use Rattle.process_output.specs.declared.Opened.{Opened}
-use Rattle.process_output.specs.Opening.{opened_contribs, opened_read, opened, places_of, said_opening, OpenedAs, EpochBy}
+use Rattle.process_output.specs.Opening.{ReadAs, opened_contribs, opened_read, opened, places_of, said_opening, OpenedAs, EpochBy}
 
--- an epoch that is answered is the sum, and the era behind it is a u64
-module _ (era inner : ℕ) where
-  pub epoch_refused : (k : ℕ) → epoch_in era inner ≡ refused k → row5 (era + inner) ≡ true
-  epoch_refused k e = go (row5 (era + inner)) refl
-    where
-      never : {x y : ℕ} → ◌≡◌ {A = Outcome ℕ} (done x) (refused y) → ⊥
-      never z = let o : ◌≡◌ {A = ℕ} 0 1 = cc in omega arith
-
-      go : (b : Bool) → row5 (era + inner) ≡ b → row5 (era + inner) ≡ true
-      go true q = q
-      go false q = absurd (never (sym (ap (λ (x : Bool). cond x (refused 5) (done (era + inner))) q) ∙ e))
-
-  pub epoch_done : (epoch : ℕ) → epoch_in era inner ≡ done epoch → (row5 (era + inner) ≡ false) × (epoch ≡ era + inner)
-  epoch_done epoch e = go (row5 (era + inner)) refl
-    where
-      never : {x y : ℕ} → ◌≡◌ {A = Outcome ℕ} (refused y) (done x) → ⊥
-      never z = let o : ◌≡◌ {A = ℕ} 0 1 = cc in omega arith
-
-      same : {x y : ℕ} → ◌≡◌ {A = Outcome ℕ} (done x) (done y) → y ≡ x
-      same z = cc
-
-      go : (b : Bool) → row5 (era + inner) ≡ b → (row5 (era + inner) ≡ false) × (epoch ≡ era + inner)
-      go true q = absurd (never (sym (ap (λ (x : Bool). cond x (refused 5) (done (era + inner))) q) ∙ e))
-      go false q = (q, same (sym (ap (λ (x : Bool). cond x (refused 5) (done (era + inner))) q) ∙ e))
-
-  -- so an epoch that is refused is just one over the limit
-  pub late_as : (r : Result ℕ Refusal) → said_next r ≡ epoch_in era inner → is_err r ≡ row5 (era + inner)
-  late_as (Ok epoch) q = sym (epoch_done epoch (sym q)).0
-  late_as (Err n) q = sym (epoch_refused (row_number n) (sym q))
-
--- rows 4, 15 and 5 of a batch that was read, by what their tests answered
-module _ (era batch-era inner : ℕ) (verdicts : List ℕ) (messages : ℕ) (r4 r15 r5 : Bool)
-    (ill-formed : r4 ≡ not (eqb (length verdicts) messages) || some no_verdict verdicts) (other : r15 ≡ batch_row15 era batch-era) (late : r5 ≡ row5 (era + inner)) where
-  pub by_rows : (o : Result ℕ Refusal) → said_opening o ≡ cond r4 (refused 4) (cond r15 (refused 15) (cond r5 (refused 5) (done (era + inner)))) → EpochBy o era batch-era inner verdicts messages
-  unfolding opened_contribs batch_row4
+-- rows 4, 15 and 5 of a batch that was read, by what the tests of 4 and 15 answered
+module _ (era batch-era inner : ℕ) (verdicts : List ℕ) (messages : ℕ) (r4 r15 : Bool)
+    (ill-formed : r4 ≡ not (eqb (length verdicts) messages) || some no_verdict verdicts) (other : r15 ≡ not (eqb batch-era era)) where
+  pub by_rows : (o : Result ℕ Refusal) → said_opening o ≡ cond r4 (refused 4) (cond r15 (refused 15) (epoch_in era inner)) → EpochBy o era batch-era inner verdicts messages
+  unfolding opened_contribs batch_row4 batch_row15
   by_rows o q bytes cs places dues e =
       let row4 = ill-formed ∙ ap (λ (n : ℕ). not (eqb (length verdicts) n) || some no_verdict verdicts) e in
-      q ∙ (λ j. cond (row4 j) (refused 4) (cond (other j) (refused 15) (cond (late j) (refused 5) (done (era + inner)))))
+      q ∙ (λ j. cond (row4 j) (refused 4) (cond (other j) (refused 15) (epoch_in era inner)))
 
--- rows 1 to 3
-module _ (z : Sizes) (era : ℕ) (b : BatchCall) where
-  -- 1: few places for faults
-  pub open_faults : b.fault_places < z.faults → opened z era b ≡ refused 1
-  unfolding opened batch_row1
-  open_faults h = cond_yes _ _ (ap (λ (x : Bool). x || ltb b.due_places z.due) (lt-ltb _ _ h))
+-- row 1: few places for faults, or for due items, or enough for both
+module _ (faults dues : ℕ) where
+  pub short_faults : faults < base.faults → batch_row1 base faults dues ≡ true
+  unfolding batch_row1
+  short_faults h = ap (λ (x : Bool). x || ltb dues base.due) (lt-ltb _ _ h)
 
-  module _ (enough : z.faults ≤ b.fault_places) where
-    -- 1: few places for due items
-    pub open_due : b.due_places < z.due → opened z era b ≡ refused 1
-    unfolding opened batch_row1
-    open_due h = cond_yes _ _ (λ j. le-ltb b.fault_places z.faults enough j || lt-ltb b.due_places z.due h j)
+  pub short_dues : base.faults ≤ faults → dues < base.due → batch_row1 base faults dues ≡ true
+  unfolding batch_row1
+  short_dues enough h = λ j. le-ltb faults base.faults enough j || lt-ltb dues base.due h j
 
-    -- 2 and 3, and the others: by the reading
-    pub open_by : z.due ≤ b.due_places → (x : Read (List ContribOf)) → read_batch z b.bytes ≡ x → opened z era b ≡ opened_read era b x
-    unfolding opened batch_row1
-    open_by room x e =
-        cond_no _ _ (λ j. le-ltb b.fault_places z.faults enough j || le-ltb b.due_places z.due room j) ∙ ap (opened_read era b) e
+  pub no_short : base.faults ≤ faults → base.due ≤ dues → batch_row1 base faults dues ≡ false
+  unfolding batch_row1
+  no_short enough room = λ j. le-ltb faults base.faults enough j || le-ltb dues base.due room j
+
+pub read_short : (r : Result (BatchIndex × ℕ) Refusal) (short : Bool) (x : Read (List ContribOf)) → short ≡ true → r ≡ Err ShortBuffer → ReadAs r short x
+read_short r short x e q = (λ y. q, λ n. absurd (false_true (sym n ∙ e)))
+
+pub read_long : (r : Result (BatchIndex × ℕ) Refusal) (short : Bool) (x : Read (List ContribOf)) → short ≡ false → Indexed r x → ReadAs r short x
+read_long r short x e q = (λ y. absurd (false_true (sym e ∙ y)), λ n. q)
+
+-- rows 1 to 3, and the others by the reading
+module _ (era : ℕ) (b : BatchCall) (r : Result (BatchIndex × ℕ) Refusal) (h : ReadAs r (batch_row1 base b.fault_places b.due_places) (read_batch base b.bytes)) where
+  pub lent_refused : (n : Refusal) → r ≡ Err n → opened base era b ≡ refused (row_number n)
+  unfolding opened
+  lent_refused n q = go (batch_row1 base b.fault_places b.due_places) refl
+    where
+      one : {k : Refusal} → r ≡ Err k → k ≡ n
+      one e = let x = sym e ∙ q in cc
+
+      go : (short : Bool) → batch_row1 base b.fault_places b.due_places ≡ short → opened base era b ≡ refused (row_number n)
+      go true e = cond_yes _ _ e ∙ ap (λ (k : Refusal). refused (row_number k)) (one (h.0 e))
+      go false e = cond_no _ _ e ∙ ap (opened_read era b) (check_refuse (read_batch base b.bytes) r (h.1 e) n q)
+
+  pub lent_long : (x : BatchIndex × ℕ) → r ≡ Ok x → batch_row1 base b.fault_places b.due_places ≡ false
+  lent_long x q = go (batch_row1 base b.fault_places b.due_places) refl
+    where
+      go : (short : Bool) → batch_row1 base b.fault_places b.due_places ≡ short → batch_row1 base b.fault_places b.due_places ≡ false
+      go true e = absurd (cross (sym q ∙ h.0 e))
+      go false e = e
+
+  pub lent_done : (x : BatchIndex × ℕ) → r ≡ Ok x → (y : Read (List ContribOf)) → read_batch base b.bytes ≡ y → opened base era b ≡ opened_read era b y
+  unfolding opened
+  lent_done x q y e = cond_no _ _ (lent_long x q) ∙ ap (opened_read era b) e
 
 -- contributions that were read stand where the noted places say
 pub placed_kept : (s : List ℕ) → Bytes s → (ks : List Contrib) (cs : List ContribOf) (c : ℕ) → read_batch base s ≡ value cs c → ks ≡ placed_from 8 cs → EachKept base s ks cs

@@ -1,16 +1,17 @@
 -- Rows 1 to 4, 15 and 5 of a batch call, before anything is done: what they need of the state is the era.
-use Rattle.std.specs.Prelude.{ℕ, ◌+◌, ◌≡◌, List, [], cond}
+use Rattle.std.specs.Prelude.{ℕ, ◌+◌, ◌≡◌, List, [], Bool, true, false, cond, Err}
 use Rattle.std.specs.declared.result.Result.{Result}
 use Rattle.bincode.specs.Read.{Read, value, refuse}
 use Rattle.bincode.specs.Outcome.{Outcome, done, refused}
 use Rattle.bincode.specs.Answer.{outcome_as_said}
 use Rattle.bincode.specs.Sizes.{Sizes}
 use Rattle.bincode.specs.declared.Refusal.{Refusal}
+use Rattle.bincode.specs.declared.Refusal.TheVariants.{ShortBuffer}
 use Rattle.internal_contrib.specs.declared.Contrib.{Contrib}
 use Rattle.internal_contrib.specs.InternalContrib.{ContribOf, read_batch}
 use Rattle.internal_contrib.specs.declared.BatchIndex.{BatchIndex}
 use Rattle.internal_contrib.specs.Places.{message_count}
-use Rattle.internal_contrib.specs.Index.{placed_from, placed_in, contribs_in}
+use Rattle.internal_contrib.specs.Index.{placed_from, placed_in, contribs_in, Indexed}
 use Rattle.dynamic_honey_badger.specs.Asked.{row5}
 use Rattle.process_output.specs.declared.Opened.{Opened}
 use Rattle.process_output.specs.Refusals.{batch_row1, batch_row4, batch_row15}
@@ -43,6 +44,10 @@ said_opening r = outcome_as_said (λ (epoch : ℕ). epoch) r
 
 abbrev pub OpenedAs : Opened → Outcome ℕ → Read (List ContribOf) → Type 0
 OpenedAs r o x = (said_opening r.opening ≡ o) × (contribs_in r.index ≡ places_of o x)
+
+-- row 1 where the lent lists are short, else what reading the batch comes to
+abbrev pub ReadAs : Result (BatchIndex × ℕ) Refusal → Bool → Read (List ContribOf) → Type 0
+ReadAs r short x = (short ≡ true → r ≡ Err ShortBuffer) × (short ≡ false → Indexed r x)
 
 -- the call that the parameters make
 abbrev pub call_of : ℕ → ℕ → List ℕ → List ℕ → ℕ → ℕ → BatchCall

@@ -3,16 +3,25 @@
 
 ghost use Rattle.std.specs.Prelude.{◌≡◌, Err, [], ◌+◌, not, ◌||◌, eqb, length};
 ghost use Rattle.bincode.specs.Sizes.{base};
+ghost use Rattle.bincode.specs.Stands.{Bytes};
 ghost use Rattle.internal_contrib.specs.InternalContrib.{read_batch};
 ghost use Rattle.internal_contrib.specs.Index.{contribs_in};
-ghost use Rattle.dynamic_honey_badger.specs.Asked.{row5};
-ghost use Rattle.process_output.specs.Refusals.{some, no_verdict, batch_row15};
-ghost use Rattle.process_output.specs.Opening.{opened, OpenedAs, EpochBy, OpenedBy, call_of};
+ghost use Rattle.process_output.specs.Refusals.{some, no_verdict, batch_row1};
+ghost use Rattle.process_output.specs.Opening.{ReadAs, opened, OpenedAs, EpochBy, OpenedBy, call_of};
 
 use bincode::Refusal;
 use due::DueList;
 use fault_log::FaultLog;
 use internal_contrib::BatchIndex;
+
+// A batch as it was agreed: its era, its inner epoch there, its bytes, and the verdicts of its key messages.
+#[derive(Clone, Copy)]
+pub struct Agreed<'a> {
+    pub era: u64,
+    pub epoch: u64,
+    pub batch: &'a [u8],
+    pub verdicts: &'a [u8],
+}
 
 // The batch's epoch, or the refusal met first; with an epoch, where the contributions stand, and beside a refusal the index notes none.
 #[derive(Clone, Copy)]
@@ -35,20 +44,6 @@ fn is_ill_formed(verdicts: &[u8], messages: u64) -> bool
     verdicts.len() as u64 != messages || has_bad_verdict(verdicts)
 }
 
-// Row 15: the batch is of another era than the engine's.
-fn is_other_era(batch_era: u64, era: u64) -> bool
-    ensures { result ≡ batch_row15 era batch_era }
-{
-    batch_era != era
-}
-
-// Row 5: the batch's epoch would be over 2^64-2.
-fn is_late(era: u64, inner: u64) -> bool
-    ensures { result ≡ row5 (era + inner) }
-{
-    dynamic_honey_badger::epoch_in(era, inner).is_err()
-}
-
 // A refusal, with no contribution noted.
 fn refused(r: Refusal) -> Opened
     ensures { (result.opening ≡ Err r) × (contribs_in result.index ≡ []) }
@@ -60,71 +55,54 @@ fn refused(r: Refusal) -> Opened
 }
 
 // Rows 4, 15 and 5, in this order; else the batch's epoch.
-fn epoch_of(
-    era: u64,
-    batch_era: u64,
-    inner: u64,
-    verdicts: &[u8],
-    messages: u64,
-) -> Result<u64, Refusal>
-    ensures { EpochBy result era batch_era inner verdicts.now messages }
+fn epoch_of(era: u64, agreed: Agreed, messages: u64) -> Result<u64, Refusal>
+    ensures { EpochBy result era agreed.entry.era agreed.entry.epoch agreed.entry.verdicts.now messages }
 {
-    let ill_formed = is_ill_formed(verdicts, messages);
-    let other_era = is_other_era(batch_era, era);
-    let late = is_late(era, inner);
-    if ill_formed {
+    if is_ill_formed(agreed.verdicts, messages) {
         return Err(Refusal::IllFormedVerdicts);
     }
-    if other_era {
+    if agreed.era != era {
         return Err(Refusal::OtherEra);
     }
-    if late {
-        return Err(Refusal::LastEpoch);
-    }
-    Ok(era + inner)
+    dynamic_honey_badger::epoch_in(era, agreed.epoch)
 }
 
 // The same of a batch that was read, with where its contributions stand; beside a refusal none counts. There the index that was read is used again, since a fresh one
 // would be written out place by place.
-fn open_read(
-    era: u64,
-    batch_era: u64,
-    inner: u64,
-    verdicts: &[u8],
-    messages: u64,
-    mut index: BatchIndex,
-) -> Opened
-    ensures { OpenedBy result era batch_era inner verdicts.now messages index }
+fn open_read(era: u64, agreed: Agreed, messages: u64, mut index: BatchIndex) -> Opened
+    ensures { OpenedBy result era agreed.entry.era agreed.entry.epoch agreed.entry.verdicts.now messages index }
 {
-    let opening = epoch_of(era, batch_era, inner, verdicts, messages);
+    let opening = epoch_of(era, agreed, messages);
     if opening.is_err() {
-        index.count = 0;
+        index.contribs.count = 0;
     }
     Opened { opening, index }
 }
 
-// Row 1 for lists shorter than 01 lends them; 2 and 3 of the bytes; then verdicts, the batch's era and its epoch.
-pub fn open_batch(
-    era: u64,
-    batch_era: u64,
-    inner: u64,
+// Row 1 for lists shorter than 01 lends them; 2 and 3 of the bytes, else where the contributions stand and how many key messages there are.
+fn read_lent(
     batch: &[u8],
-    verdicts: &[u8],
     fault_places: usize,
     due_places: usize,
-) -> Opened
-    ensures { OpenedAs result
-        (opened base era (call_of batch_era inner batch.now verdicts.now fault_places due_places))
-        (read_batch base batch.now) }
+) -> Result<(BatchIndex, u64), Refusal>
+    ensures { ReadAs result (batch_row1 base fault_places due_places) (read_batch base batch.now)
+        × Bytes batch.now }
 {
-    if fault_places < FaultLog::LIMIT {
-        return refused(Refusal::ShortBuffer);
+    if fault_places < FaultLog::LIMIT || due_places < DueList::LIMIT {
+        return Err(Refusal::ShortBuffer);
     }
-    if due_places < DueList::LIMIT {
-        return refused(Refusal::ShortBuffer);
-    }
-    match internal_contrib::index_batch(batch) {
+    internal_contrib::index_batch(batch)
+}
+
+// Rows 1 to 3; then verdicts, the batch's era and its epoch.
+pub fn open_batch(era: u64, agreed: Agreed, fault_places: usize, due_places: usize) -> Opened
+    ensures { OpenedAs result
+        (opened base era (call_of agreed.entry.era agreed.entry.epoch agreed.entry.batch.now agreed.entry.verdicts.now fault_places due_places))
+        (read_batch base agreed.entry.batch.now)
+        × Bytes agreed.entry.batch.now }
+{
+    match read_lent(agreed.batch, fault_places, due_places) {
         Err(r) => refused(r),
-        Ok((index, messages)) => open_read(era, batch_era, inner, verdicts, messages, index),
+        Ok((index, messages)) => open_read(era, agreed, messages, index),
     }
 }

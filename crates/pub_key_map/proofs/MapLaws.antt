@@ -8,13 +8,16 @@ use native.Mathlib.Omega.{arith}
 use lib.Dec.{eqb}
 use lib.ListN.{length, length-append}
 use borrow.Author.Tests.{eq-eqb, eqb-true}
+use Rattle.lists.proofs.EqLaws.{eq_slices}
 use Rattle.lists.proofs.ListLaws.{and_both, eq_list_true, eq_list_refl}
 use Rattle.bincode.specs.Numbers.{fixed}
 use Rattle.bincode.specs.Stands.{concat_map}
 use Rattle.bincode.proofs.NumberLaws.{length_bytes_of}
 use Rattle.pub_key_map.specs.declared.Node.{Node}
+use Rattle.pub_key_map.specs.declared.PubKeyMap.{PubKeyMap}
 use Rattle.pub_key_map.specs.contracts.NodePartialEq.TheImpl.{eq-value}
-use Rattle.pub_key_map.specs.PubKeyMap.{same_node, same_nodes, node_bytes, map_bytes}
+use Rattle.pub_key_map.specs.contracts.PubKeyMapPartialEq.TheImpl as map
+use Rattle.pub_key_map.specs.PubKeyMap.{nodes_of, same_node, same_nodes, node_bytes, map_bytes}
 
 pub length_node : (n : Node) → length (node_bytes fixed n) ≡ 12
 unfolding node_bytes
@@ -51,3 +54,7 @@ map_refl = eq_list_refl same_node node_refl
 pub node_eq : (a b : Node) → (eq-value).it a b ≡ same_node a b
 unfolding same_node
 node_eq a b = refl
+
+-- and `==` of maps
+pub map_eq : (a b : PubKeyMap) → (map.eq-value).it a b ≡ same_nodes (nodes_of a) (nodes_of b)
+map_eq a b = eq_slices _ same_node node_eq (nodes_of a) (nodes_of b)

@@ -1,6 +1,7 @@
 -- A map from node id to key, in definitions a list of nodes: as code holds it, as it is compared, read and written.
-use Rattle.std.specs.Prelude.{ℕ, ◌+◌, ◌^◌, ◌≤◌, ◌<◌, ◌≡◌, List, [], ◌∷◌, ◌++◌, Bool, cond, ◌&&◌, length, take, ltb, eqb}
+use Rattle.std.specs.Prelude.{ℕ, ◌+◌, ◌^◌, ◌≤◌, ◌<◌, ◌≡◌, List, [], ◌∷◌, ◌++◌, Bool, cond, ◌&&◌, length, ltb, eqb}
 use Rattle.lists.specs.Lists.{padded, eq_list}
+use Rattle.array_list.specs.ArrayList.{items_in}
 use Rattle.bincode.specs.Read.{Read, value, refuse, bind}
 use Rattle.bincode.specs.Numbers.{Edition}
 use Rattle.bincode.specs.Sizes.{Sizes, base}
@@ -11,14 +12,18 @@ use Rattle.pub_key_map.specs.declared.PubKeyMap.{PubKeyMap}
 
 -- the nodes of any value of the struct: those below the count, as far as the array reaches
 abbrev pub nodes_of : PubKeyMap → List Node
-nodes_of m = take m.count m.nodes
+nodes_of m = items_in m.nodes
+
+-- what a list of nodes goes by
+abbrev pub id_of : Node → ℕ
+id_of n = n.id
 
 -- the struct that holds a list of nodes: unused places are zero
 abbrev pub no_node : Node
 no_node = record { id = 0; key = 0 }
 
 abbrev pub map_held : List Node → PubKeyMap
-map_held ns = record { count = length ns; nodes = padded base.nodes no_node ns }
+map_held ns = record { nodes = record { count = length ns; items = padded base.nodes no_node ns } }
 
 -- equality: the same ids with the same keys
 unfoldable pub same_node : Node → Node → Bool

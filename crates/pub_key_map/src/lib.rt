@@ -1,16 +1,17 @@
 // A map from node id to key (the Rust's `PubKeyMap`): a count, then each id with its key, ids strictly ascending and no key 0.
 #![tactic(auto)]
 
-ghost use Rattle.std.specs.Prelude.{◌≡◌, [], ◌+◌, ◌*◌, ◌≤◌, length};
+ghost use Rattle.std.specs.Prelude.{◌≡◌, ℕ, [], ◌+◌, ◌*◌, ◌≤◌, length};
 ghost use Rattle.bincode.specs.Read.{whole};
 ghost use Rattle.bincode.specs.Numbers.{fixed};
 ghost use Rattle.bincode.specs.Answer.{answer, step_of};
 ghost use Rattle.bincode.specs.Sizes.{base};
 ghost use Rattle.bincode.specs.Writing.{written, written_to};
 ghost use Rattle.pub_key_map.specs.declared.Node.{Node as NodeOf};
-ghost use Rattle.pub_key_map.specs.PubKeyMap.{nodes_of, map_held, same_nodes, read_node, read_map, node_bytes, map_bytes};
+ghost use Rattle.pub_key_map.specs.PubKeyMap.{id_of, nodes_of, map_held, same_nodes, read_node, read_map, node_bytes, map_bytes};
 
-use bincode::Refusal;
+use array_list::{ArrayList, Keyed};
+use bincode::{Encoded, Refusal};
 
 // 01: a station's id and key.
 #[derive(Clone, Copy, PartialEq, Eq)]
@@ -27,11 +28,19 @@ impl Node {
     }
 }
 
-// Ids ascend; places from `count` on hold no node.
-#[derive(Clone, Copy)]
+// Lists of nodes go by the id.
+impl Keyed for Node {
+    ghost key_of = { id_of };
+
+    fn key(&self) -> u32 {
+        self.id
+    }
+}
+
+// Ids ascend.
+#[derive(Clone, Copy, PartialEq)]
 pub struct PubKeyMap {
-    pub count: usize,
-    pub nodes: [Node; PubKeyMap::LIMIT],
+    pub nodes: ArrayList<Node, { PubKeyMap::LIMIT }>,
 }
 
 impl PubKeyMap {
@@ -39,17 +48,21 @@ impl PubKeyMap {
 
     // The nodes of an array below a count.
     pub fn new(count: usize, nodes: [Node; PubKeyMap::LIMIT]) -> Self
-        ensures { result ≡ record { count = count; nodes = nodes } }
+        ensures { result ≡ record { nodes = record { count = count; items = nodes } } }
     {
-        PubKeyMap { count, nodes }
+        PubKeyMap {
+            nodes: ArrayList {
+                count,
+                items: nodes,
+            },
+        }
     }
 
     pub fn empty() -> Self
         ensures { result ≡ map_held [] }
     {
         PubKeyMap {
-            count: 0,
-            nodes: [Node { id: 0, key: 0 }; PubKeyMap::LIMIT],
+            nodes: ArrayList::empty(Node { id: 0, key: 0 }),
         }
     }
 
@@ -57,14 +70,15 @@ impl PubKeyMap {
     pub fn len(self) -> usize
         ensures { (result ≡ length (nodes_of self)) × (result ≤ base.nodes) }
     {
-        self.count.min(PubKeyMap::LIMIT)
+        self.nodes.len()
     }
 
     // Whether two maps have the same nodes with the same keys.
+    #[tactic(auto, using(crate::proofs::MapLaws::map_eq))]
     pub fn same(self, other: PubKeyMap) -> bool
         ensures { result ≡ same_nodes (nodes_of self) (nodes_of other) }
     {
-        self.nodes[..self.len()] == other.nodes[..other.len()]
+        self == other
     }
 }
 
@@ -100,13 +114,13 @@ pub fn read_map(s: &[u8], at: usize) -> Result<(PubKeyMap, usize), Refusal>
     let mut nodes = [Node { id: 0, key: 0 }; PubKeyMap::LIMIT];
     let mut low: u64 = 0;
     let mut c = first;
-    for i in 0..count {
+    for node in nodes[..count].iter_mut() {
         let (e, next) = read_node(s, c, low)?;
-        nodes[i] = e;
+        *node = e;
         low = u64::from(e.id) + 1;
         c = next;
     }
-    Ok((PubKeyMap { count, nodes }, c))
+    Ok((PubKeyMap::new(count, nodes), c))
 }
 
 // A map that is passed over: ids and keys are tested, none is kept.
@@ -130,14 +144,11 @@ pub fn check_map(s: &[u8], at: usize) -> Result<usize, Refusal>
 }
 
 // A map that is a whole input: nothing may be left over.
+#[tactic(auto, using(bincode::proofs::AnswerLaws::all_read_whole))]
 pub fn read_whole_map(s: &[u8]) -> Result<(PubKeyMap, usize), Refusal>
     ensures { result ≡ answer map_held (whole (read_map fixed base s.now) s.now) }
 {
-    let (map, c) = read_map(s, 0)?;
-    if c < s.len() {
-        return Err(Refusal::Malformed);
-    }
-    Ok((map, c))
+    bincode::all_read(s, read_map(s, 0))
 }
 
 // How many bytes a map takes.
@@ -147,15 +158,11 @@ pub fn map_size(m: PubKeyMap) -> usize
     8 + 12 * m.len()
 }
 
+#[tactic(auto, unfolding(crate::specs::PubKeyMap::node_bytes))]
 fn write_node(buf: &mut [u8], at: usize, n: Node) -> usize
     ensures { (buf.new ≡ written buf.old at (node_bytes fixed n)) × (result ≡ written_to buf.old at (node_bytes fixed n)) }
 {
-    if bincode::room(buf.len(), at, 12) {
-        let c = bincode::write_u32(buf, at, n.id);
-        bincode::write_u64(buf, c, n.key)
-    } else {
-        at
-    }
+    bincode::write_both(buf, at, n.id, n.key)
 }
 
 // The position behind the map, or `at` where it has no room; then nothing is written.
@@ -165,11 +172,23 @@ pub fn write_map(buf: &mut [u8], at: usize, m: PubKeyMap) -> usize
     if bincode::room(buf.len(), at, map_size(m)) {
         let n = m.len();
         let mut c = bincode::write_u64(buf, at, n as u64);
-        for x in &m.nodes[..n] {
+        for x in m.nodes.as_slice() {
             c = write_node(buf, c, *x);
         }
         c
     } else {
         at
+    }
+}
+
+impl Encoded for PubKeyMap {
+    ghost bytes = { λ m. map_bytes fixed (nodes_of m) };
+
+    fn size(&self) -> usize {
+        map_size(*self)
+    }
+
+    fn write(&self, buf: &mut [u8], at: usize) -> usize {
+        write_map(buf, at, *self)
     }
 }

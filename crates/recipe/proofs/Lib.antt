@@ -1,3 +1,4 @@
+pub mod MapLaws
 pub mod FillLaws
 pub mod RecipeLaws
 pub mod PageLaws

@@ -9,12 +9,14 @@ use native.Mathlib.Numerals.{add-one}
 use lib.Dec.{ltb}
 use lib.ListN.{length, take}
 use borrow.Author.Tests.{lt-ltb, le-ltb}
-use Rattle.lists.specs.Lists.{marked, filter}
+use Rattle.std.specs.Prelude.{Some, None}
+use Rattle.std.specs.declared.option.Option.{Option}
+use Rattle.lists.specs.Lists.{marked, present, filter}
 use Rattle.util.specs.MaxFaulty.{max_faulty}
 use Rattle.bincode.specs.Stands.{Each}
 use Rattle.network_info.specs.NetworkInfo.{is_member}
 use Rattle.key_gen.specs.declared.Proposal.{Proposal}
-use Rattle.key_gen.specs.KeyGen.{ProposalOf, KeyGenOf, proposal_at, is_recorded, complete, indices, parts_of}
+use Rattle.key_gen.specs.KeyGen.{ProposalOf, KeyGenOf, proposal_at, complete, indices, parts_of}
 use Rattle.recipe.specs.Recipe.{ShareOf, observer, share, missing, some_short, recipe}
 
 -- fewer than t+1 good values of one of them are too few
@@ -76,26 +78,22 @@ abbrev names : List ProposalOf → List ℕ
 names qs = map (λ (q : ProposalOf). q.proposer) qs
 
 module _ (named : ProposalOf → Bool) where
-  abbrev names_from : ℕ → List Proposal → List ℕ
-  names_from i ps = names (filter named (marked is_recorded proposal_at i ps))
+  abbrev names_from : ℕ → List (Option Proposal) → List ℕ
+  names_from i ps = names (filter named (present proposal_at i ps))
 
-  proposers_from : (ps : List Proposal) (i : ℕ) → Ascend i (names_from i ps)
-  unfolding marked filter
+  proposers_from : (ps : List (Option Proposal)) (i : ℕ) → Ascend i (names_from i ps)
+  unfolding present filter
   proposers_from [] i = tt
-  proposers_from (p ∷ ps) i = go p.recorded (proposers_from ps (suc i))
+  proposers_from (None ∷ ps) i = lower i (suc i) (names_from (suc i) ps) (omega arith) (proposers_from ps (suc i))
+  proposers_from (Some p ∷ ps) i = go (named (proposal_at i p)) (proposers_from ps (suc i))
     where
-      one : (b : Bool) → Ascend (suc i) (names_from (suc i) ps)
-          → Ascend i (names (cond b (proposal_at i p ∷ filter named (marked is_recorded proposal_at (suc i) ps)) (filter named (marked is_recorded proposal_at (suc i) ps))))
-      one true e = (omega arith, rw (add-one i) e)
-      one false e = lower i (suc i) (names_from (suc i) ps) (omega arith) e
-
       go : (b : Bool) → Ascend (suc i) (names_from (suc i) ps)
-          → Ascend i (names (filter named (cond b (proposal_at i p ∷ marked is_recorded proposal_at (suc i) ps) (marked is_recorded proposal_at (suc i) ps))))
-      go true e = one (named (proposal_at i p)) e
+          → Ascend i (names (cond b (proposal_at i p ∷ filter named (present proposal_at (suc i) ps)) (filter named (present proposal_at (suc i) ps))))
+      go true e = (omega arith, rw (add-one i) e)
       go false e = lower i (suc i) (names_from (suc i) ps) (omega arith) e
 
   -- "complete proposers ascending": of what code holds, whichever of the parts are named
-  pub proposers_ascend : (ps : List Proposal) → Ascend 0 (map (λ (q : ProposalOf). q.proposer) (filter named (parts_of ps)))
+  pub proposers_ascend : (ps : List (Option Proposal)) → Ascend 0 (map (λ (q : ProposalOf). q.proposer) (filter named (parts_of ps)))
   proposers_ascend ps = proposers_from ps 0
 
 used_from : (n : ℕ) (bs : List Bool) (i : ℕ) → Ascend i (take n (marked (λ b. b) (λ k b. k) i bs))

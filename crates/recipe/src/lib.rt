@@ -1,19 +1,17 @@
 // sync_key_gen.rs: what `generate` would add up, as a recipe for the host.
 #![tactic(auto)]
 
-ghost use Rattle.std.specs.Prelude.{◌≡◌, ◌≤◌};
-ghost use Rattle.bincode.specs.Sizes.{base};
+ghost use Rattle.std.specs.Prelude.{◌≡◌, ◌+◌};
 ghost use Rattle.key_gen.specs.KeyGen.{key_gen_of};
-ghost use Rattle.recipe.specs.Recipe.{recipe, recipe_of, no_share, kind_of};
-ghost use Rattle.recipe.specs.Places.{first_marks, short_at, share_for};
+ghost use Rattle.recipe.specs.Recipe.{recipe, recipe_of, kind_of};
+ghost use Rattle.recipe.specs.Places.{first_marks, short_in, share_in};
 
 use key_gen::{KeyGen, Proposal};
 use pub_key_map::PubKeyMap;
 
-// One proposer, at its index: whether its part is complete, and whose values are used.
+// Whose values are used of one proposer.
 #[derive(Clone, Copy)]
 pub struct Share {
-    pub complete: bool,
     pub used: [bool; PubKeyMap::LIMIT],
 }
 
@@ -24,56 +22,48 @@ pub enum RecipeKind {
     Missing,
 }
 
+// The shares of the complete proposers, at their indices; an observer's and a missing recipe name those proposers too.
 #[derive(Clone, Copy)]
 pub struct Recipe {
     pub kind: RecipeKind,
-    pub shares: [Share; PubKeyMap::LIMIT],
+    pub shares: [Option<Share>; PubKeyMap::LIMIT],
 }
 
-// The first n of the marked places.
-fn first(good: [bool; PubKeyMap::LIMIT], n: usize) -> [bool; PubKeyMap::LIMIT]
-    ensures { result ≡ first_marks n good }
+// The first t+1 of the marked places.
+fn first(good: [bool; PubKeyMap::LIMIT], t: usize) -> [bool; PubKeyMap::LIMIT]
+    ensures { result ≡ first_marks (t + 1) good }
 {
     let mut out = [false; PubKeyMap::LIMIT];
-    let mut left = n;
+    let mut taken: usize = 0;
     for i in 0..PubKeyMap::LIMIT {
-        if good[i] && 0 < left {
+        if good[i] && taken <= t {
             out[i] = true;
-            left -= 1;
+            taken += 1;
         }
     }
     out
 }
 
-// Whether a complete part has too few good values.
-fn is_short(p: Proposal, t: usize) -> bool
-    requires { t ≤ base.nodes }
-    ensures { result ≡ short_at t p }
+// Whether a complete part stands at a place that has too few good values, no more than t.
+fn is_short(place: Option<Proposal>, t: usize) -> bool
+    ensures { result ≡ short_in t place }
 {
-    p.is_complete(t) && key_gen::count_marked(p.good) < t + 1
+    match place {
+        Some(p) => p.is_complete(t) && key_gen::count_marked(p.good) <= t,
+        None => false,
+    }
 }
 
 impl Share {
-    pub fn empty() -> Self
-        ensures { result ≡ no_share }
+    // What one proposer gives, where its part is complete: the first t+1 acknowledgers with good values.
+    fn of_proposal(place: Option<Proposal>, t: usize) -> Option<Self>
+        ensures { result ≡ share_in t place }
     {
-        Share {
-            complete: false,
-            used: [false; PubKeyMap::LIMIT],
-        }
-    }
-
-    // What one proposer gives: the first t+1 acknowledgers with good values, where its part is complete.
-    fn of_proposal(p: Proposal, t: usize) -> Self
-        requires { t ≤ base.nodes }
-        ensures { result ≡ share_for t p }
-    {
-        if !p.is_complete(t) {
-            return Share::empty();
-        }
-        Share {
-            complete: true,
-            used: first(p.good, t + 1),
+        match place {
+            Some(p) if p.is_complete(t) => Some(Share {
+                used: first(p.good, t),
+            }),
+            _ => None,
         }
     }
 }
@@ -85,15 +75,8 @@ impl Recipe {
     {
         let map = g.pub_keys;
         let t = util::max_faulty(map.len());
-        let mut shares = [Share::empty(); PubKeyMap::LIMIT];
-        let mut short = false;
-        for i in 0..PubKeyMap::LIMIT {
-            let p = g.proposals[i];
-            if is_short(p, t) {
-                short = true;
-            }
-            shares[i] = Share::of_proposal(p, t);
-        }
+        let short = g.proposals.iter().any(|p| is_short(*p, t));
+        let shares = g.proposals.map(|p| Share::of_proposal(p, t));
         let kind = kind_of(network_info::is_member(map, g.our_id), short);
         Recipe { kind, shares }
     }

@@ -1,8 +1,8 @@
 // The calls that fill lent lists, made as a host makes them: the engine is lent the first places of the lists, as many as the line names, and faults and due items are read off them.
-use crate::answers::{map_hex, params_hex, put_due, put_faults, put_recipe, state_hex};
-use crate::lent::{Lists, end_line, lend};
-use crate::parse::{Agreed, Join};
-use crate::text::first;
+use crate::answers::{put_due, put_faults, put_recipe};
+use crate::lent::{Lists, end_line};
+use crate::parse::{BatchCall, Join};
+use crate::text::hex_with;
 use batch::Batch;
 use bincode::Refusal;
 use dynamic_honey_badger::{DynamicHoneyBadger, JoinStarted};
@@ -13,9 +13,9 @@ use std::alloc::AllocError;
 // A report: its epoch, era, change, map and params.
 fn put_batch(out: &mut String, b: Batch) -> Result<(), AllocError> {
     let alloc = *out.allocator();
-    let change = state_hex(alloc, b.change)?;
-    let map = map_hex(alloc, b.pub_keys)?;
-    let params = params_hex(alloc, b.params)?;
+    let change = hex_with(alloc, b.change, change::write_state)?;
+    let map = hex_with(alloc, b.pub_keys, pub_key_map::write_map)?;
+    let params = hex_with(alloc, b.params, params::write_params)?;
     write!(out, "batch {} {} {change} {map} {params}", b.epoch, b.era)
 }
 
@@ -24,9 +24,9 @@ fn put_due_items(out: &mut String, lists: &Lists, n: usize) -> Result<(), AllocE
     out.push_str(" due ")?;
     put_due(
         out,
-        first(&lists.due_kinds, n),
-        first(&lists.indices, n),
-        first(&lists.eras, n),
+        lists.due_kinds.first(n),
+        lists.indices.first(n),
+        lists.eras.first(n),
     )
 }
 
@@ -43,28 +43,16 @@ fn put_made(out: &mut String, recipe: Option<Recipe>) -> Result<(), AllocError> 
 fn put_report(out: &mut String, r: Report, lists: &Lists) -> Result<(), AllocError> {
     put_batch(out, r.batch)?;
     out.push_str(" faults ")?;
-    put_faults(
-        out,
-        first(&lists.ids, r.faults),
-        first(&lists.kinds, r.faults),
-    )?;
+    put_faults(out, lists.ids.first(r.faults), lists.kinds.first(r.faults))?;
     put_due_items(out, lists, r.due)?;
     put_made(out, r.recipe)
-}
-
-// How many due items a batch filled in; none where it was refused.
-fn due_count(outcome: Result<Report, Refusal>) -> usize {
-    match outcome {
-        Ok(r) => r.due,
-        Err(_) => 0,
-    }
 }
 
 // Says what a batch answers, looks at the places behind those filled, and clears the lists for the next call.
 pub(crate) fn say_batch(
     out: &mut String,
     outcome: Result<Report, Refusal>,
-    b: &Agreed,
+    b: &BatchCall,
     lists: &mut Lists,
 ) -> Result<(), AllocError> {
     match outcome {
@@ -72,7 +60,7 @@ pub(crate) fn say_batch(
         Err(refusal) => write!(out, "refused {refusal}")?,
     }
     let n = process_batch::fault_count(&outcome);
-    let k = due_count(outcome);
+    let k = outcome.as_ref().map_or(0, |r| r.due);
     let faults = lists.faults_kept(n, b.faults);
     let due = lists.due_kept(k, b.due);
     lists.clear(n, k);
@@ -85,9 +73,9 @@ pub(crate) fn join(j: &Join, lists: &mut Lists) -> Result<JoinStarted, Refusal> 
         j.id,
         j.key,
         &j.plan,
-        lend(&mut lists.due_kinds, j.places),
-        lend(&mut lists.indices, j.places),
-        lend(&mut lists.eras, j.places),
+        lists.due_kinds.lend(j.places),
+        lists.indices.lend(j.places),
+        lists.eras.lend(j.places),
     )
 }
 

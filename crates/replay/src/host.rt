@@ -2,15 +2,16 @@
 // those that make a replica or a host are short.
 use crate::answers::kind_name;
 use crate::batches::{join, say_batch, say_join};
-use crate::lent::{Lists, lend};
-use crate::parse::{Agreed, Call, Join, New, Order};
+use crate::lent::Lists;
+use crate::parse::{BatchCall, Call, Join, New, Order};
 use crate::queries::{ask, schedule, user};
-use crate::text::{Failure, hex_of};
+use crate::text::{Failure, hex_with};
 use batch::Batch;
 use bincode::Refusal;
 use dynamic_honey_badger::DynamicHoneyBadger;
 use fault_log::FaultKind;
 use message::Message;
+use process_output::Agreed;
 use std::alloc::AllocError;
 use votes::SignedVote;
 
@@ -23,9 +24,12 @@ pub struct Host {
 
 // The bytes of the message that broadcasts an own vote.
 fn say_cast(out: &mut String, vote: SignedVote) -> Result<(), AllocError> {
-    let mut buf = [0u8; 512];
-    let n = message::write_message(&mut buf, 0, Message::of_vote(vote));
-    writeln!(out, "vote {}", hex_of(*out.allocator(), &buf, n)?)
+    let bytes = hex_with(
+        *out.allocator(),
+        Message::SignedVote(vote),
+        message::write_message,
+    )?;
+    writeln!(out, "vote {bytes}")
 }
 
 // What an own vote answers.
@@ -80,21 +84,24 @@ fn start_joining(
     }
 }
 
-// The state goes straight into a call and is put back at once: any other order copies it once more.
+// The state goes straight into a call and is put back at once: any other order copies it once more, and so does a call that is handed in as a closure.
 impl Host {
     // A refused batch keeps the last report.
-    fn batch(&mut self, b: &Agreed, lists: &mut Lists, out: &mut String) -> Result<(), Failure> {
+    fn batch(&mut self, b: &BatchCall, lists: &mut Lists, out: &mut String) -> Result<(), Failure> {
+        let agreed = Agreed {
+            era: b.era,
+            epoch: b.epoch,
+            batch: &b.batch,
+            verdicts: &b.verdicts,
+        };
         let r = process_batch::process_batch(
             self.replica,
-            b.era,
-            b.inner,
-            &b.batch,
-            &b.verdicts,
-            lend(&mut lists.ids, b.faults),
-            lend(&mut lists.kinds, b.faults),
-            lend(&mut lists.due_kinds, b.due),
-            lend(&mut lists.indices, b.due),
-            lend(&mut lists.eras, b.due),
+            agreed,
+            lists.ids.lend(b.faults),
+            lists.kinds.lend(b.faults),
+            lists.due_kinds.lend(b.due),
+            lists.indices.lend(b.due),
+            lists.eras.lend(b.due),
         );
         self.replica = r.state;
         if let Ok(report) = r.outcome {
@@ -159,13 +166,13 @@ pub(crate) fn answer(
         Call::Join(j) => Ok(start_joining(host, j, lists, out)?),
         Call::Schedule(epoch, bytes) => schedule(*epoch, bytes, out),
         Call::User(id, batch) => user(*id, batch, out),
-        Call::Order(order) => match host {
-            Some(h) => h.order(order, lists, out),
-            None => Err(Failure::NoEngine),
-        },
-        Call::Ask(question) => match host {
-            Some(h) => ask(h, *question, out),
-            None => Err(Failure::NoEngine),
-        },
+        Call::Order(order) => {
+            let h = host.as_mut().ok_or(Failure::NoEngine)?;
+            h.order(order, lists, out)
+        }
+        Call::Ask(question) => {
+            let h = host.as_ref().ok_or(Failure::NoEngine)?;
+            ask(h, *question, out)
+        }
     }
 }

@@ -1,5 +1,6 @@
 // The lists that a call is lent: every place holds a pattern, so a place that is written for nothing shows in the answer. The lists last from call to call; the
 // places that a call filled get the pattern back.
+use crate::text::first;
 use std::alloc::{AllocError, Global};
 
 // The places of each list: as many as a line can name, and some behind that no call is lent.
@@ -17,14 +18,21 @@ pub const KIND: u8 = 165;
 
 pub const NUMBER: u64 = 11936128518282651045;
 
+// A list that calls are lent, and the pattern of its places.
+#[derive(Drop)]
+pub struct Lent<T> {
+    places: Vec<T>,
+    pattern: T,
+}
+
 // Faults by ids and kinds, due items by kinds, indices and eras.
 #[derive(Drop)]
 pub struct Lists {
-    pub ids: Vec<u32>,
-    pub kinds: Vec<u8>,
-    pub due_kinds: Vec<u8>,
-    pub indices: Vec<u64>,
-    pub eras: Vec<u64>,
+    pub ids: Lent<u32>,
+    pub kinds: Lent<u8>,
+    pub due_kinds: Lent<u8>,
+    pub indices: Lent<u64>,
+    pub eras: Lent<u64>,
 }
 
 // The first n places of a list, as many as there are.
@@ -33,73 +41,90 @@ pub(crate) fn lend<T>(list: &mut [T], n: usize) -> &mut [T] {
     &mut list[..places]
 }
 
-// Whether the places of a list from one on to another hold the pattern. The loop has no exit, so that many places are compared at once.
-fn kept<T: Copy + PartialEq>(list: &[T], from: usize, to: usize, pattern: T) -> bool {
-    match list.get(from..to.min(list.len())) {
-        Some(places) => places.iter().fold(true, |kept, x| kept & (*x == pattern)),
-        None => true,
+impl<T: Copy + PartialEq> Lent<T> {
+    fn new(alloc: Global, pattern: T) -> Result<Lent<T>, AllocError> {
+        Ok(Lent {
+            places: vec![in alloc; pattern; PLACES]?,
+            pattern,
+        })
     }
-}
 
-// The end of what is looked at behind the places that a line names.
-fn guarded(named: usize) -> usize {
-    named.saturating_add(GUARDS).min(PLACES)
-}
+    // The first n places, for a call to fill.
+    pub(crate) fn lend(&mut self, n: usize) -> &mut [T] {
+        lend(&mut self.places, n)
+    }
 
-// The end of what is looked at behind the first n places of a list.
-fn near(n: usize, end: usize) -> usize {
-    n.saturating_add(NEAR).min(end)
+    // The first n places, as a call filled them.
+    pub(crate) fn first(&self, n: usize) -> &[T] {
+        first(&self.places, n)
+    }
+
+    // Whether the places from one on to another hold the pattern. The loop has no exit, so that many places are compared at once.
+    fn holds(&self, from: usize, to: usize) -> bool {
+        let pattern = self.pattern;
+        match self.places.get(from..to.min(self.places.len())) {
+            Some(places) => places.iter().fold(true, |kept, x| kept & (*x == pattern)),
+            None => true,
+        }
+    }
+
+    // Whether places hold the pattern: those next behind the first n, and some behind those that a line names.
+    fn kept(&self, n: usize, named: usize) -> bool {
+        let end = named.saturating_add(GUARDS).min(PLACES);
+        self.holds(n, n.saturating_add(NEAR).min(end)) && self.holds(named, end)
+    }
+
+    // Whether every place holds the pattern.
+    fn all_kept(&self) -> bool {
+        self.holds(0, PLACES)
+    }
+
+    // Puts the pattern back at the first n places.
+    fn clear(&mut self, n: usize) {
+        let pattern = self.pattern;
+        for x in self.lend(n) {
+            *x = pattern;
+        }
+    }
 }
 
 impl Lists {
     pub(crate) fn new(alloc: Global) -> Result<Lists, AllocError> {
         Ok(Lists {
-            ids: vec![in alloc; ID; PLACES]?,
-            kinds: vec![in alloc; KIND; PLACES]?,
-            due_kinds: vec![in alloc; KIND; PLACES]?,
-            indices: vec![in alloc; NUMBER; PLACES]?,
-            eras: vec![in alloc; NUMBER; PLACES]?,
+            ids: Lent::new(alloc, ID)?,
+            kinds: Lent::new(alloc, KIND)?,
+            due_kinds: Lent::new(alloc, KIND)?,
+            indices: Lent::new(alloc, NUMBER)?,
+            eras: Lent::new(alloc, NUMBER)?,
         })
     }
 
-    // Whether places of faults hold the pattern: those next behind the first n, and some behind those that a line names.
+    // Whether places of faults hold the pattern, behind the first n and behind those that a line names.
     pub(crate) fn faults_kept(&self, n: usize, named: usize) -> bool {
-        let end = guarded(named);
-        let to = near(n, end);
-        kept(&self.ids, n, to, ID)
-            && kept(&self.kinds, n, to, KIND)
-            && kept(&self.ids, named, end, ID)
-            && kept(&self.kinds, named, end, KIND)
+        self.ids.kept(n, named) && self.kinds.kept(n, named)
     }
 
     // The same of due items.
     pub(crate) fn due_kept(&self, n: usize, named: usize) -> bool {
-        let end = guarded(named);
-        let to = near(n, end);
-        kept(&self.due_kinds, n, to, KIND)
-            && kept(&self.indices, n, to, NUMBER)
-            && kept(&self.eras, n, to, NUMBER)
-            && kept(&self.due_kinds, named, end, KIND)
-            && kept(&self.indices, named, end, NUMBER)
-            && kept(&self.eras, named, end, NUMBER)
+        self.due_kinds.kept(n, named) && self.indices.kept(n, named) && self.eras.kept(n, named)
     }
 
     // Whether every place of all lists holds the pattern, as it must between two calls.
     pub(crate) fn all_kept(&self) -> bool {
-        kept(&self.ids, 0, PLACES, ID)
-            && kept(&self.kinds, 0, PLACES, KIND)
-            && kept(&self.due_kinds, 0, PLACES, KIND)
-            && kept(&self.indices, 0, PLACES, NUMBER)
-            && kept(&self.eras, 0, PLACES, NUMBER)
+        self.ids.all_kept()
+            && self.kinds.all_kept()
+            && self.due_kinds.all_kept()
+            && self.indices.all_kept()
+            && self.eras.all_kept()
     }
 
     // Puts the pattern back at the first places of faults and of due items.
     pub(crate) fn clear(&mut self, faults: usize, due: usize) {
-        lend(&mut self.ids, faults).fill(ID);
-        lend(&mut self.kinds, faults).fill(KIND);
-        lend(&mut self.due_kinds, due).fill(KIND);
-        lend(&mut self.indices, due).fill(NUMBER);
-        lend(&mut self.eras, due).fill(NUMBER);
+        self.ids.clear(faults);
+        self.kinds.clear(faults);
+        self.due_kinds.clear(due);
+        self.indices.clear(due);
+        self.eras.clear(due);
     }
 }
 

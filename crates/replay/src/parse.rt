@@ -24,9 +24,9 @@ pub struct Join {
 
 // batch ERA INNER BATCH VERDICTS FAULT_PLACES DUE_PLACES
 #[derive(Drop)]
-pub struct Agreed {
+pub struct BatchCall {
     pub era: u64,
-    pub inner: u64,
+    pub epoch: u64,
     pub batch: Vec<u8>,
     pub verdicts: Vec<u8>,
     pub faults: usize,
@@ -36,7 +36,7 @@ pub struct Agreed {
 // The calls that may change a replica.
 #[derive(Drop)]
 pub enum Order {
-    Batch(Agreed),
+    Batch(BatchCall),
     Message(u32, Vec<u8>),
     Due(Vec<u8>),
     Vote(Vec<u8>),
@@ -88,9 +88,9 @@ fn join_of(f: &mut Fields<'_>, alloc: Global) -> Result<Call, Failure> {
 }
 
 fn batch_of(f: &mut Fields<'_>, alloc: Global) -> Result<Order, Failure> {
-    Ok(Order::Batch(Agreed {
+    Ok(Order::Batch(BatchCall {
         era: f.number()?,
-        inner: f.number()?,
+        epoch: f.number()?,
         batch: f.bytes(alloc)?,
         verdicts: f.bytes(alloc)?,
         faults: f.places()?,

@@ -1,5 +1,6 @@
 -- Signed votes by ascending voter.
-use Rattle.std.specs.Prelude.{ℕ, List, map, take, replicate}
+use Rattle.std.specs.Prelude.{ℕ, List, map, replicate}
+use Rattle.array_list.specs.ArrayList.{items_in}
 use Rattle.bincode.specs.Sizes.{base}
 use Rattle.votes.specs.declared.SignedVote.{SignedVote}
 use Rattle.votes.specs.Votes.{SignedVoteOf, signed_of, signed_held, no_signed}
@@ -7,7 +8,7 @@ use Rattle.signed_votes.specs.declared.SignedVotes.{SignedVotes}
 
 -- the structs that count: those below the count, as far as the array reaches
 abbrev pub held : SignedVotes → List SignedVote
-held x = take x.count x.votes
+held x = items_in x.votes
 
 -- and the votes that they stand for
 abbrev pub votes_of : SignedVotes → List SignedVoteOf
@@ -15,12 +16,9 @@ votes_of x = map signed_of (held x)
 
 -- no votes
 abbrev pub no_votes : SignedVotes
-no_votes = record { count = 0; votes = replicate base.nodes (signed_held no_signed) }
+no_votes = record { votes = record { count = 0; items = replicate base.nodes (signed_held no_signed) } }
 
 -- keys and numbers
-abbrev pub voter_in : SignedVote → ℕ
-voter_in x = x.voter
-
 abbrev pub voter_of : SignedVoteOf → ℕ
 voter_of x = x.voter
 

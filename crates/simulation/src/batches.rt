@@ -37,14 +37,14 @@ fn handles(map: PubKeyMap) -> Handles {
     Handles::new(map.len(), [9; Handles::LIMIT])
 }
 
-fn part(map: PubKeyMap, id: u32) -> KeyGenMessage {
+pub(crate) fn part(map: PubKeyMap, id: u32) -> KeyGenMessage {
     KeyGenMessage::part(Part {
         commit: 70 + u64::from(id),
         rows: handles(map),
     })
 }
 
-fn ack(map: PubKeyMap, proposer: u64) -> KeyGenMessage {
+pub(crate) fn ack(map: PubKeyMap, proposer: u64) -> KeyGenMessage {
     KeyGenMessage::ack(Ack {
         proposer,
         values: handles(map),
@@ -64,6 +64,50 @@ fn vote(era: u64, id: u32, change: Change) -> SignedVote {
     }
 }
 
+// A key message of a node.
+fn signed(era: u64, signer: Node, message: KeyGenMessage) -> SignedKeyGenMsg {
+    SignedKeyGenMsg {
+        era,
+        id: signer.id,
+        message,
+        sig: signer.key,
+    }
+}
+
+// A part of each node of a map.
+fn parts_of(alloc: Global, era: u64, map: PubKeyMap) -> Result<Vec<SignedKeyGenMsg>, AllocError> {
+    let mut parts = Vec::new(alloc);
+    for signer in map.nodes.as_slice() {
+        parts.push(signed(era, *signer, part(map, signer.id)))?;
+    }
+    Ok(parts)
+}
+
+// The acks of one node.
+fn add_acks_of(
+    messages: &mut Vec<SignedKeyGenMsg>,
+    era: u64,
+    map: PubKeyMap,
+    signer: Node,
+) -> Result<(), AllocError> {
+    for proposer in 0..ACKED {
+        messages.push(signed(era, signer, ack(map, proposer)))?;
+    }
+    Ok(())
+}
+
+// The acks of each node of a map.
+fn add_acks(
+    messages: &mut Vec<SignedKeyGenMsg>,
+    era: u64,
+    map: PubKeyMap,
+) -> Result<(), AllocError> {
+    for signer in map.nodes.as_slice() {
+        add_acks_of(messages, era, map, *signer)?;
+    }
+    Ok(())
+}
+
 // Opens a batch of one contribution: its proposer, four user bytes, and how many key messages follow.
 fn open(buf: &mut [u8], user: u32, messages: u64) -> usize {
     let a = bincode::write_u64(buf, 0, 1);
@@ -73,60 +117,45 @@ fn open(buf: &mut [u8], user: u32, messages: u64) -> usize {
     bincode::write_u64(buf, d, messages)
 }
 
-// A key message of a node.
-fn write(buf: &mut [u8], at: usize, era: u64, signer: Node, message: KeyGenMessage) -> usize {
-    key_gen_message::write_signed(
-        buf,
-        at,
-        SignedKeyGenMsg {
-            era,
-            id: signer.id,
-            message,
-            sig: signer.key,
-        },
-    )
-}
-
-// A vote of a node.
-fn write_vote(buf: &mut [u8], at: usize, era: u64, id: u32, change: Change) -> usize {
-    votes::write_signed_vote(buf, at, vote(era, id, change))
-}
-
-// A part of each node of a map.
-fn write_parts(buf: &mut [u8], at: usize, era: u64, map: PubKeyMap) -> usize {
+// Values one behind the other, by the writer of their kind.
+fn write_all<T: Copy, W: Fn(&mut [u8], usize, T) -> usize>(
+    buf: &mut [u8],
+    at: usize,
+    values: &[T],
+    write: W,
+) -> usize
+    requires { W.IsAlwaysCallable write }
+{
     let mut c = at;
-    for signer in &map.nodes[..map.len()] {
-        c = write(buf, c, era, *signer, part(map, signer.id));
+    for x in values {
+        c = write(buf, c, *x);
     }
     c
-}
-
-// The acks of one node.
-fn write_acks_of(buf: &mut [u8], at: usize, era: u64, map: PubKeyMap, signer: Node) -> usize {
-    let mut c = at;
-    for proposer in 0..ACKED {
-        c = write(buf, c, era, signer, ack(map, proposer));
-    }
-    c
-}
-
-// The acks of each node of a map.
-fn write_acks(buf: &mut [u8], at: usize, era: u64, map: PubKeyMap) -> usize {
-    let mut c = at;
-    for signer in &map.nodes[..map.len()] {
-        c = write_acks_of(buf, c, era, map, *signer);
-    }
-    c
-}
-
-// A batch without a contribution takes 8 bytes; what is longer has bytes left over.
-pub(crate) fn nothing(alloc: Global, len: usize) -> Result<Vec<u8>, AllocError> {
-    vec![in alloc; 0u8; len]
 }
 
 // The first n bytes of what was written.
 fn written(alloc: Global, buf: &[u8], n: usize) -> Result<Vec<u8>, AllocError> {
     first(buf, n).to_vec(alloc)
+}
+
+// A batch of one contribution with key messages and votes.
+fn batch(
+    alloc: Global,
+    user: u32,
+    messages: &[SignedKeyGenMsg],
+    votes: &[SignedVote],
+) -> Result<Vec<u8>, AllocError> {
+    let mut buf = [0u8; ROOM];
+    let a = open(&mut buf, user, messages.len() as u64);
+    let b = write_all(&mut buf, a, messages, key_gen_message::write_signed);
+    let c = bincode::write_u64(&mut buf, b, votes.len() as u64);
+    let len = write_all(&mut buf, c, votes, votes::write_signed_vote);
+    written(alloc, &buf, len)
+}
+
+// A batch without a contribution takes 8 bytes; what is longer has bytes left over.
+pub(crate) fn nothing(alloc: Global, len: usize) -> Result<Vec<u8>, AllocError> {
+    vec![in alloc; 0u8; len]
 }
 
 // The votes of node 1 and another for a change.
@@ -136,12 +165,8 @@ pub(crate) fn votes(
     other: u32,
     change: Change,
 ) -> Result<Vec<u8>, AllocError> {
-    let mut buf = [0u8; ROOM];
-    let a = open(&mut buf, 41, 0);
-    let b = bincode::write_u64(&mut buf, a, 2);
-    let c = write_vote(&mut buf, b, era, 1, change);
-    let len = write_vote(&mut buf, c, era, other, change);
-    written(alloc, &buf, len)
+    let both = [vote(era, 1, change), vote(era, other, change)];
+    batch(alloc, 41, &[], &both)
 }
 
 // One vote for a change.
@@ -151,11 +176,7 @@ pub(crate) fn one_vote(
     id: u32,
     change: Change,
 ) -> Result<Vec<u8>, AllocError> {
-    let mut buf = [0u8; ROOM];
-    let a = open(&mut buf, 46, 0);
-    let b = bincode::write_u64(&mut buf, a, 1);
-    let len = write_vote(&mut buf, b, era, id, change);
-    written(alloc, &buf, len)
+    batch(alloc, 46, &[], &[vote(era, id, change)])
 }
 
 // One part, of a node that need not be in the map.
@@ -165,29 +186,19 @@ pub(crate) fn one_part(
     map: PubKeyMap,
     id: u32,
 ) -> Result<Vec<u8>, AllocError> {
-    let mut buf = [0u8; ROOM];
-    let a = open(&mut buf, 42, 1);
-    let b = write(&mut buf, a, era, node(id), part(map, id));
-    let len = bincode::write_u64(&mut buf, b, 0);
-    written(alloc, &buf, len)
+    batch(alloc, 42, &[signed(era, node(id), part(map, id))], &[])
 }
 
 // The parts of a map's nodes.
 pub(crate) fn parts(alloc: Global, era: u64, map: PubKeyMap) -> Result<Vec<u8>, AllocError> {
-    let mut buf = [0u8; ROOM];
-    let a = open(&mut buf, 43, map.len() as u64);
-    let b = write_parts(&mut buf, a, era, map);
-    let len = bincode::write_u64(&mut buf, b, 0);
-    written(alloc, &buf, len)
+    batch(alloc, 43, &parts_of(alloc, era, map)?, &[])
 }
 
 // The acks of a map's nodes.
 pub(crate) fn acks(alloc: Global, era: u64, map: PubKeyMap) -> Result<Vec<u8>, AllocError> {
-    let mut buf = [0u8; ROOM];
-    let a = open(&mut buf, 44, map.len() as u64 * ACKED);
-    let b = write_acks(&mut buf, a, era, map);
-    let len = bincode::write_u64(&mut buf, b, 0);
-    written(alloc, &buf, len)
+    let mut messages = Vec::new(alloc);
+    add_acks(&mut messages, era, map)?;
+    batch(alloc, 44, &messages, &[])
 }
 
 // Parts and acks of a map's nodes.
@@ -196,12 +207,9 @@ pub(crate) fn parts_and_acks(
     era: u64,
     map: PubKeyMap,
 ) -> Result<Vec<u8>, AllocError> {
-    let mut buf = [0u8; ROOM];
-    let a = open(&mut buf, 45, map.len() as u64 * (ACKED + 1));
-    let b = write_parts(&mut buf, a, era, map);
-    let c = write_acks(&mut buf, b, era, map);
-    let len = bincode::write_u64(&mut buf, c, 0);
-    written(alloc, &buf, len)
+    let mut messages = parts_of(alloc, era, map)?;
+    add_acks(&mut messages, era, map)?;
+    batch(alloc, 45, &messages, &[])
 }
 
 // The bytes of a message.
@@ -221,24 +229,12 @@ pub(crate) fn vote_message(
     wire(alloc, Message::of_vote(vote(era, id, change)))
 }
 
-// A part of a node, as a message.
-pub(crate) fn part_message(
+// A key message of a node, as a message.
+pub(crate) fn key_message(
     alloc: Global,
     era: u64,
-    map: PubKeyMap,
     id: u32,
+    message: KeyGenMessage,
 ) -> Result<Vec<u8>, AllocError> {
-    let signer = node(id);
-    wire(alloc, Message::of_key_gen(era, part(map, id), signer.key))
-}
-
-// An ack of a node on the part with index 0, as a message.
-pub(crate) fn ack_message(
-    alloc: Global,
-    era: u64,
-    map: PubKeyMap,
-    id: u32,
-) -> Result<Vec<u8>, AllocError> {
-    let signer = node(id);
-    wire(alloc, Message::of_key_gen(era, ack(map, 0), signer.key))
+    wire(alloc, Message::of_key_gen(era, message, node(id).key))
 }

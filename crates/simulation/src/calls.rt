@@ -5,6 +5,7 @@ use due::DueList;
 use dynamic_honey_badger::DynamicHoneyBadger;
 use fault_log::FaultLog;
 use process_batch::{Processed, Report};
+use process_output::Agreed;
 use std::alloc::{AllocError, Global};
 
 // What a call told: the report or the refusal, and the faults that every replica must tell, ids with kinds by their numbers.
@@ -35,10 +36,7 @@ fn shared_faults(
 pub(crate) fn call(
     alloc: Global,
     state: &mut DynamicHoneyBadger,
-    era: u64,
-    inner: u64,
-    batch: &[u8],
-    verdicts: &[u8],
+    agreed: Agreed<'_>,
 ) -> Result<Called, AllocError> {
     let mut ids = [0u32; FaultLog::LIMIT];
     let mut kinds = [0u8; FaultLog::LIMIT];
@@ -47,10 +45,7 @@ pub(crate) fn call(
         outcome,
     } = process_batch::process_batch(
         *state,
-        era,
-        inner,
-        batch,
-        verdicts,
+        agreed,
         &mut ids,
         &mut kinds,
         &mut [0u8; DueList::LIMIT],

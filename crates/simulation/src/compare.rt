@@ -2,16 +2,13 @@
 use crate::calls::Called;
 use batch::Batch;
 use board::{Board, Standing};
-use change::ChangeState;
 use dynamic_honey_badger::DynamicHoneyBadger;
 use fault_log::{AckFault, FaultKind, PartFault};
-use key_gen::{KeyGen, Proposal};
+use key_gen::Proposal;
 use key_gen_state::KeyGenState;
-use process_batch::Report;
 use signed_votes::SignedVotes;
 use std::fmt;
 use vote_counter::VoteCounter;
-use votes::SignedVote;
 
 // What differs.
 #[derive(Clone, Copy)]
@@ -43,87 +40,63 @@ impl fmt::Display for Difference {
     }
 }
 
-// By their bytes, as votes below: what is not encoded is not compared.
-fn same_change(a: ChangeState, b: ChangeState) -> bool {
+// The first of these that differs; each stands with whether it is the same.
+fn first_difference(parts: &[(Difference, bool)]) -> Option<Difference> {
+    parts.iter().find(|part| !part.1).map(|part| part.0)
+}
+
+// By their bytes: what is not encoded is not compared.
+fn same_bytes<T, W: Fn(&mut [u8], usize, T) -> usize>(a: T, b: T, write: W) -> bool
+    requires { W.IsAlwaysCallable write }
+{
     let mut x = [0u8; 256];
     let mut y = [0u8; 256];
-    let n = change::write_state(&mut x, 0, a);
-    let m = change::write_state(&mut y, 0, b);
+    let n = write(&mut x, 0, a);
+    let m = write(&mut y, 0, b);
     n == m && x == y
 }
 
-fn same_vote(a: &SignedVote, b: &SignedVote) -> bool {
-    let mut x = [0u8; 256];
-    let mut y = [0u8; 256];
-    let n = votes::write_signed_vote(&mut x, 0, *a);
-    let m = votes::write_signed_vote(&mut y, 0, *b);
-    n == m && x == y
-}
-
-fn same_votes(a: SignedVotes, b: SignedVotes) -> bool {
-    let n = a.len();
-    n == b.len()
-        && a.votes[..n]
-            .iter()
-            .zip(&b.votes[..n])
-            .all(|(x, y)| same_vote(x, y))
-}
-
-// Rows that are handed out; where there is none, both must say so.
-fn same_row(a: Option<Standing>, b: Option<Standing>) -> bool {
+// Both are missing, or both are there and the same.
+fn same_option<T: Copy, F: FnOnce(T, T) -> bool>(a: Option<T>, b: Option<T>, same: F) -> bool
+    requires { F.IsAlwaysCallable same }
+{
     match (a, b) {
-        (Some(x), Some(y)) => x.count == y.count && x.change.same(y.change),
+        (Some(x), Some(y)) => same(x, y),
         (None, None) => true,
         _ => false,
     }
 }
 
+fn same_votes(a: SignedVotes, b: SignedVotes) -> bool {
+    let (a, b) = (a.votes.as_slice(), b.votes.as_slice());
+    a.len() == b.len()
+        && a.iter()
+            .zip(b)
+            .all(|(x, y)| same_bytes(*x, *y, votes::write_signed_vote))
+}
+
 // Row by row, as the counters hand them out.
 fn same_board(a: VoteCounter, b: VoteCounter) -> bool {
-    for i in 0..Board::LIMIT {
-        if !same_row(a.board_row(i), b.board_row(i)) {
-            return false;
-        }
-    }
-    true
+    (0..Board::LIMIT).all(|i| {
+        same_option(a.board_row(i), b.board_row(i), |x: Standing, y: Standing| {
+            x.count == y.count && x.change.same(y.change)
+        })
+    })
 }
 
 // Good values are a replica's own.
-fn same_proposal(a: &Proposal, b: &Proposal) -> bool {
-    a.recorded == b.recorded && a.commit == b.commit && a.acks == b.acks
-}
-
-fn same_proposals(a: KeyGen, b: KeyGen) -> bool {
-    a.proposals
-        .iter()
-        .zip(&b.proposals)
-        .all(|(x, y)| same_proposal(x, y))
+fn same_proposal(a: Proposal, b: Proposal) -> bool {
+    a.commit == b.commit && a.acks == b.acks
 }
 
 // Message counts are a replica's own.
 fn same_key_gen(a: KeyGenState, b: KeyGenState) -> bool {
-    if a.running && b.running {
-        let candidate = a.key_gen.pub_keys;
-        return candidate.same(b.key_gen.pub_keys) && same_proposals(a.key_gen, b.key_gen);
-    }
-    a.running == b.running
-}
-
-// Era, map, committed votes and board.
-fn counter_difference(a: VoteCounter, b: VoteCounter) -> Option<Difference> {
-    if a.era != b.era {
-        return Some(Difference::Era);
-    }
-    if !a.pub_keys.same(b.pub_keys) {
-        return Some(Difference::Roster);
-    }
-    if !same_votes(a.committed, b.committed) {
-        return Some(Difference::Votes);
-    }
-    if !same_board(a, b) {
-        return Some(Difference::Board);
-    }
-    None
+    let (a, b) = (a.key_gen, b.key_gen);
+    a.pub_keys.same(b.pub_keys)
+        && a.proposals
+            .iter()
+            .zip(&b.proposals)
+            .all(|(x, y)| same_option(*x, *y, same_proposal))
 }
 
 // Era, map, committed votes, board, parameters and key generation.
@@ -131,23 +104,22 @@ pub(crate) fn shared_difference(
     a: &DynamicHoneyBadger,
     b: &DynamicHoneyBadger,
 ) -> Option<Difference> {
-    let counter = counter_difference(a.vote_counter, b.vote_counter);
-    if counter.is_some() {
-        return counter;
-    }
-    if a.params != b.params {
-        return Some(Difference::Params);
-    }
-    if !same_key_gen(a.key_gen_state, b.key_gen_state) {
-        return Some(Difference::KeyGeneration);
-    }
-    None
+    let (x, y) = (a.vote_counter, b.vote_counter);
+    let generating = same_option(a.key_gen_state, b.key_gen_state, same_key_gen);
+    first_difference(&[
+        (Difference::Era, x.era == y.era),
+        (Difference::Roster, x.pub_keys.same(y.pub_keys)),
+        (Difference::Votes, same_votes(x.committed, y.committed)),
+        (Difference::Board, same_board(x, y)),
+        (Difference::Params, a.params == b.params),
+        (Difference::KeyGeneration, generating),
+    ])
 }
 
 fn same_batch(a: Batch, b: Batch) -> bool {
     a.epoch == b.epoch
         && a.era == b.era
-        && same_change(a.change, b.change)
+        && same_bytes(a.change, b.change, change::write_state)
         && a.pub_keys.same(b.pub_keys)
         && a.params == b.params
 }
@@ -173,16 +145,12 @@ pub(crate) fn is_shared(fault: &(u32, u8)) -> bool {
 
 // The refusals or what was told: the reports, then the faults.
 pub(crate) fn told_difference(a: &Called, b: &Called) -> Option<Difference> {
-    let same_reports = match (a.outcome, b.outcome) {
-        (Ok(x), Ok(y)) => same_batch(x.batch, y.batch),
-        (Err(x), Err(y)) if x == y => return None,
-        _ => return Some(Difference::Refusal),
-    };
-    if !same_reports {
-        return Some(Difference::Report);
+    match (a.outcome, b.outcome) {
+        (Ok(x), Ok(y)) => first_difference(&[
+            (Difference::Report, same_batch(x.batch, y.batch)),
+            (Difference::Faults, a.faults == b.faults),
+        ]),
+        (Err(x), Err(y)) if x == y => None,
+        _ => Some(Difference::Refusal),
     }
-    if a.faults != b.faults {
-        return Some(Difference::Faults);
-    }
-    None
 }

@@ -7,16 +7,19 @@ use batch::Batch;
 use bincode::Refusal;
 use dynamic_honey_badger::{DynamicHoneyBadger, Handled, Voted};
 use fault_log::FaultKind;
+use process_output::Agreed;
 use std::alloc::{AllocError, Global};
 
-// The report is the first replica's of the last batch, where that was not refused; `agree` says whether all answered the last batch alike.
+// The report is the first replica's of the last batch, where that was not refused.
 #[derive(Drop)]
 pub struct Fleet {
     pub alloc: Global,
     pub states: Vec<DynamicHoneyBadger>,
     pub report: Option<Batch>,
-    pub agree: bool,
 }
+
+// The replica that differs from the first, by its place, and in what; none where all are alike.
+pub type Differing = Option<(usize, Difference)>;
 
 // How a replica handled a message.
 pub type Handling = Result<Option<FaultKind>, Refusal>;
@@ -29,17 +32,13 @@ pub struct Given<'a> {
     pub batch: &'a [u8],
 }
 
-// Replica i has verdicts of its own: i for every message, and 3 behind the last.
-fn verdict(i: usize) -> u8 {
-    match i {
-        0 => 0,
-        1 => 1,
-        2 => 2,
-        _ => 3,
+impl<'a> Given<'a> {
+    pub(crate) fn new(era: u64, inner: u64, batch: &'a [u8]) -> Given<'a> {
+        Given { era, inner, batch }
     }
 }
 
-// The batch as replica i handles it, with as many verdicts as it asks for.
+// The batch as replica i handles it, with as many verdicts as it asks for. They are its own: i for every message, and 3 from replica 3 on.
 fn handle(
     alloc: Global,
     state: &mut DynamicHoneyBadger,
@@ -47,8 +46,14 @@ fn handle(
     given: Given<'_>,
 ) -> Result<Called, AllocError> {
     let n = internal_contrib::check_batch(given.batch).unwrap_or(0);
-    let verdicts = vec![in alloc; verdict(i); n as usize]?;
-    call(alloc, state, given.era, given.inner, given.batch, &verdicts)
+    let verdicts = vec![in alloc; i.min(3) as u8; n as usize]?;
+    let agreed = Agreed {
+        era: given.era,
+        epoch: given.inner,
+        batch: given.batch,
+        verdicts: &verdicts,
+    };
+    call(alloc, state, agreed)
 }
 
 // Era and roster of a replica.
@@ -86,7 +91,6 @@ impl Fleet {
             alloc,
             states: Vec::new(alloc),
             report: None,
-            agree: true,
         }
     }
 
@@ -95,41 +99,33 @@ impl Fleet {
         self.states.push(state).map_err(AllocError::from)
     }
 
-    // Whether all agree still, after replica i was compared with the first; the first difference of a step is said.
-    pub(crate) fn compared(
-        &mut self,
-        rt: &impl Print,
-        step: u64,
-        i: usize,
-        d: Option<Difference>,
-    ) -> anyhow::Result<()> {
-        if let Some(d) = d {
-            if self.agree {
-                show::differ(rt, step, i, d)?;
-            }
-            self.agree = false;
-        }
-        Ok(())
+    // Replica i compared with the first, in what they hold.
+    fn state_difference(&self, i: usize) -> Option<Difference> {
+        shared_difference(self.states.first()?, self.states.get(i)?)
     }
 
     // Replica i takes a batch, as the first did; what it told, and then what it holds, is compared with the first.
     fn follow(
         &mut self,
-        rt: &impl Print,
-        step: u64,
         led: &Called,
         i: usize,
         given: Given<'_>,
-    ) -> anyhow::Result<()> {
+    ) -> Result<Option<Difference>, AllocError> {
         let Some(state) = self.states.get_mut(i) else {
-            return Ok(());
+            return Ok(None);
         };
         let told = handle(self.alloc, state, i, given)?;
-        let d = match told_difference(led, &told) {
-            Some(d) => Some(d),
-            None => self.state_difference(i),
-        };
-        self.compared(rt, step, i, d)
+        Ok(told_difference(led, &told).or_else(|| self.state_difference(i)))
+    }
+
+    // All but the first take a batch, as the first did; the first of them that differs is told.
+    fn follow_all(&mut self, led: &Called, given: Given<'_>) -> Result<Differing, AllocError> {
+        let mut differing = None;
+        for i in 1..self.states.len() {
+            let d = self.follow(led, i, given)?;
+            differing = differing.or(d.map(|d| (i, d)));
+        }
+        Ok(differing)
     }
 
     // All take a batch, and the step's line is written.
@@ -145,29 +141,15 @@ impl Fleet {
         let led = handle(self.alloc, first, 0, given)?;
         let network = network(first);
         self.report = led.outcome.ok().map(|r| r.batch);
-        self.agree = true;
-        for i in 1..self.states.len() {
-            self.follow(rt, step, &led, i, given)?;
+        match self.follow_all(&led, given)? {
+            Some((i, d)) => show::differ(rt, step, i, d),
+            None => show::agree(rt, step, led.outcome.err(), led.faults.len(), network),
         }
-        if self.agree {
-            show::agree(rt, step, led.outcome.err(), led.faults.len(), network)?;
-        }
-        Ok(())
     }
 
-    // What each replica holds, compared with what the first holds.
-    fn compare_states(&mut self, rt: &impl Print, step: u64) -> anyhow::Result<()> {
-        self.agree = true;
-        for i in 1..self.states.len() {
-            let d = self.state_difference(i);
-            self.compared(rt, step, i, d)?;
-        }
-        Ok(())
-    }
-
-    // Replica i compared with the first, in what they hold.
-    fn state_difference(&self, i: usize) -> Option<Difference> {
-        shared_difference(self.states.first()?, self.states.get(i)?)
+    // The first replica that differs from the first of all in what it holds.
+    fn differing(&self) -> Differing {
+        (1..self.states.len()).find_map(|i| self.state_difference(i).map(|d| (i, d)))
     }
 
     // Replica i alone is given a batch; then all are compared in what they hold, and the step's line is written.
@@ -182,14 +164,14 @@ impl Fleet {
             return Ok(());
         };
         let told = handle(self.alloc, state, i, given)?;
-        self.compare_states(rt, step)?;
+        let differing = self.differing();
         let Some(first) = self.states.first() else {
             return Ok(());
         };
-        if self.agree {
-            show::alone(rt, step, i, told.outcome.err(), network(first))?;
+        match differing {
+            Some((i, d)) => show::differ(rt, step, i, d),
+            None => show::alone(rt, step, i, told.outcome.err(), network(first)),
         }
-        Ok(())
     }
 
     // Replica i receives a message.

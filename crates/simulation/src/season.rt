@@ -53,40 +53,29 @@ fn between(rt: &impl Print, f: &mut Fleet, candidate: PubKeyMap) -> anyhow::Resu
     show::expect(rt, 1, f.vote_to_remove(0, 3))?;
     let vote = batches::vote_message(alloc, 1, 4, Change::node_change(candidate))?;
     show::expect(rt, 1, f.hear(1, 4, &vote) == Some(Ok(None)))?;
-    let part = batches::part_message(alloc, 1, candidate, 5)?;
+    let part = batches::key_message(alloc, 1, 5, batches::part(candidate, 5))?;
     show::expect(rt, 1, f.hear(1, 5, &part) == Some(Ok(None)))?;
-    let mut damaged = batches::part_message(alloc, 1, candidate, 4)?;
+    let mut damaged = batches::key_message(alloc, 1, 4, batches::part(candidate, 4))?;
     damaged.pop();
     show::expect(rt, 1, matches!(f.hear(2, 4, &damaged), Some(Err(_))))
-}
-
-// A step: all take a batch of an era.
-fn step(
-    rt: &impl Print,
-    f: &mut Fleet,
-    step: u64,
-    era: u64,
-    inner: u64,
-    batch: Vec<u8>,
-) -> anyhow::Result<()> {
-    let batch = &batch;
-    f.take(rt, step, Given { era, inner, batch })
 }
 
 // Steps 2 and 3: the parts and the acks of key generation; between them the first replica's host hands back an ack that was due.
 fn generate(rt: &impl Print, f: &mut Fleet, candidate: PubKeyMap) -> anyhow::Result<()> {
     let alloc = f.alloc;
-    step(rt, f, 2, 1, 0, batches::parts(alloc, 1, candidate)?)?;
-    let item = batches::ack_message(alloc, 1, candidate, 1)?;
+    let parts = batches::parts(alloc, 1, candidate)?;
+    f.take(rt, 2, Given::new(1, 0, &parts))?;
+    let item = batches::key_message(alloc, 1, 1, batches::ack(candidate, 0))?;
     show::expect(rt, 2, f.hand_back(0, &item) == Some(Ok(None)))?;
-    step(rt, f, 3, 1, 1, batches::acks(alloc, 1, candidate)?)
+    let acks = batches::acks(alloc, 1, candidate)?;
+    f.take(rt, 3, Given::new(1, 1, &acks))
 }
 
 // Steps 1 to 3: node 5 is voted in, and key generation with it runs and completes.
 fn grow(rt: &impl Print, f: &mut Fleet) -> anyhow::Result<()> {
     let candidate = batches::roster(5);
     let votes = batches::votes(f.alloc, 0, 2, Change::node_change(candidate))?;
-    step(rt, f, 1, 0, 0, votes)?;
+    f.take(rt, 1, Given::new(0, 0, &votes))?;
     between(rt, f, candidate)?;
     generate(rt, f, candidate)
 }
@@ -99,11 +88,12 @@ fn remaining() -> PubKeyMap {
 // Steps 4 to 6: a batch with a byte left over, a schedule, and node 3 is voted out.
 fn shrink(rt: &impl Print, f: &mut Fleet) -> anyhow::Result<()> {
     let alloc = f.alloc;
-    step(rt, f, 4, 3, 0, batches::nothing(alloc, 9)?)?;
-    let never = Change::schedule(EncryptionSchedule::Never);
-    step(rt, f, 5, 3, 0, batches::votes(alloc, 3, 2, never)?)?;
-    let leaving = Change::node_change(remaining());
-    step(rt, f, 6, 4, 2, batches::votes(alloc, 4, 2, leaving)?)
+    let longer = batches::nothing(alloc, 9)?;
+    f.take(rt, 4, Given::new(3, 0, &longer))?;
+    let never = batches::votes(alloc, 3, 2, Change::schedule(EncryptionSchedule::Never))?;
+    f.take(rt, 5, Given::new(3, 0, &never))?;
+    let leaving = batches::votes(alloc, 4, 2, Change::node_change(remaining()))?;
+    f.take(rt, 6, Given::new(4, 2, &leaving))
 }
 
 // How many bytes the plan of a report has; none where there is no plan.
@@ -133,13 +123,13 @@ fn start_joining(report: Option<Batch>) -> Result<JoinStarted, Refusal> {
 
 // One replica more, compared with the first; says that it joined, where it stands where the first stands.
 fn admit(rt: &impl Print, f: &mut Fleet, joiner: DynamicHoneyBadger) -> anyhow::Result<()> {
-    f.agree = true;
-    if let Some(first) = f.states.first() {
-        let d = shared_difference(first, &joiner);
-        f.compared(rt, 7, 3, d)?;
-    }
-    if f.agree {
-        show::joined(rt, 7, network(&joiner))?;
+    match f
+        .states
+        .first()
+        .and_then(|first| shared_difference(first, &joiner))
+    {
+        Some(d) => show::differ(rt, 7, 3, d)?,
+        None => show::joined(rt, 7, network(&joiner))?,
     }
     f.add(joiner)?;
     Ok(())
@@ -157,38 +147,30 @@ fn join(rt: &impl Print, f: &mut Fleet) -> anyhow::Result<()> {
 fn catch_up(rt: &impl Print, f: &mut Fleet) -> anyhow::Result<()> {
     let change = Change::schedule(EncryptionSchedule::Always);
     let votes = batches::votes(f.alloc, 9, 2, change)?;
-    let batch = &votes;
-    let given = Given {
-        era: 7,
-        inner: 2,
-        batch,
-    };
-    f.take_alone(rt, 10, 1, given)
+    f.take_alone(rt, 10, 1, Given::new(7, 2, &votes))
 }
 
 // Steps 7 to 11: a replica joins, a part of the leaving node is a fault of it, key generation completes, a replica gets a batch too late, and nothing is left to do.
 fn end(rt: &impl Print, f: &mut Fleet) -> anyhow::Result<()> {
     let alloc = f.alloc;
     join(rt, f)?;
-    step(rt, f, 8, 7, 0, batches::one_part(alloc, 7, remaining(), 3)?)?;
-    step(
-        rt,
-        f,
-        9,
-        7,
-        1,
-        batches::parts_and_acks(alloc, 7, remaining())?,
-    )?;
+    let part = batches::one_part(alloc, 7, remaining(), 3)?;
+    f.take(rt, 8, Given::new(7, 0, &part))?;
+    let all = batches::parts_and_acks(alloc, 7, remaining())?;
+    f.take(rt, 9, Given::new(7, 1, &all))?;
     catch_up(rt, f)?;
-    step(rt, f, 11, 9, 0, batches::nothing(alloc, 8)?)
+    let nothing = batches::nothing(alloc, 8)?;
+    f.take(rt, 11, Given::new(9, 0, &nothing))
 }
 
 // Steps 12 and 13: the vote of node 1 alone stays committed, and that of node 3, which has left, is a fault; with the vote of node 2 the schedule wins.
 fn wait(rt: &impl Print, f: &mut Fleet) -> anyhow::Result<()> {
     let alloc = f.alloc;
     let change = Change::schedule(EncryptionSchedule::EveryNthEpoch(2));
-    step(rt, f, 12, 9, 1, batches::votes(alloc, 9, 3, change)?)?;
-    step(rt, f, 13, 9, 2, batches::one_vote(alloc, 9, 2, change)?)
+    let with_leaver = batches::votes(alloc, 9, 3, change)?;
+    f.take(rt, 12, Given::new(9, 1, &with_leaver))?;
+    let second = batches::one_vote(alloc, 9, 2, change)?;
+    f.take(rt, 13, Given::new(9, 2, &second))
 }
 
 // All of it.

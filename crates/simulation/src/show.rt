@@ -16,9 +16,8 @@ pub struct Network {
 
 impl fmt::Display for Network {
     fn fmt<W: fmt::Write>(&self, f: &mut fmt::Formatter<W>) -> fmt::Result {
-        let map = self.map;
         write!(f, " era {} roster ", self.era)?;
-        for (i, node) in map.nodes[..map.len()].iter().enumerate() {
+        for (i, node) in self.map.nodes.as_slice().iter().enumerate() {
             if 0 < i {
                 f.write_str(",")?;
             }

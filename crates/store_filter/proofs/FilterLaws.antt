@@ -3,90 +3,54 @@
 use Prim.Native.Nat.{ℕ, zero, suc, ◌+◌, ◌-◌, ◌≤◌, ◌<◌}
 use mathlib.Core.Path.{◌≡◌, refl, sym, ap, ◌∙◌}
 use mathlib.Core.List.{List, [], ◌∷◌, ◌++◌, map, map-append}
-use mathlib.Core.Bool.{Bool, true, false}
+use mathlib.Core.Bool.{Bool, true, false, not, cond, ◌&&◌, ◌||◌}
+use Rattle.std.specs.List.{list_any}
 use native.Mathlib.Omega.{arith}
-use native.Mathlib.Numerals.{add-one}
-use lib.ListN.{length, take, drop, get_or, set, length-append, get_or-map}
-use lib.Seq.{drop-cons, take_all, take-suc-set, get_or-take}
+use lib.Dec.{ltb, eqb}
+use lib.ListN.{length, length-append, length-map}
+use borrow.Author.Tests.{ltb-true, ltb-false, eqb-false, eq-eqb, ne_eqb}
 use Rattle.lists.specs.Lists.{filter}
+use Rattle.array_list.specs.ArrayList.{pushed}
 use Rattle.bincode.specs.Read.{value, refuse}
 use Rattle.bincode.specs.Sizes.{base}
-use Rattle.bincode.specs.Items.{foldl}
 use Rattle.bincode.proofs.NumberLaws.{read_cut}
 use Rattle.filled.proofs.FillLaws.{capped_more, capped_same}
-use Rattle.sync_key_gen.specs.declared.Handles.{Handles}
-use Rattle.key_gen_message.specs.declared.KeyGenKind.{KeyGenKind}
-use Rattle.key_gen_message.specs.declared.KeyGenKind.TheVariants.{Part, Ack}
-use Rattle.key_gen_message.specs.declared.SignedKeyGenMsg.{SignedKeyGenMsg}
-use Rattle.key_gen_message.specs.KeyGenMessage.{SignedKeyGenMsgOf, read_signed_key_gen_msg, same_signed, signed_of, no_signed, message_of_kind}
+use Rattle.key_gen_message.specs.declared.KeyGenMessage.{KeyGenMessage}
+use Rattle.key_gen_message.specs.declared.KeyGenMessage.TheVariants.{Part, Ack}
+use Rattle.key_gen_message.specs.KeyGenMessage.{SignedKeyGenMsgOf, read_signed_key_gen_msg, same_signed, message_of}
 use Rattle.key_gen_message.specs.Head.{body_of}
 use Rattle.key_gen_message.proofs.MessageLaws.{signed_true}
-use Rattle.internal_contrib.specs.declared.Contrib.{Contrib}
+use Rattle.message_store.specs.MessageStore.{is_other}
 use Rattle.steps.specs.Kept.{is_none}
 use Rattle.steps.proofs.KeepLaws.{without_all}
-use Rattle.store_filter.specs.Filter.{Entry, entries_from, listed, contrib_listed, entries_in, message_in, without_entries, entry_id, entry_first, entry_place, number_in, ReadAt, AllRead, Listed, Room}
-
--- what a read past the list would give
-abbrev pub no_entry : Entry
-no_entry = record { message = no_signed; at = 0 }
-
--- each is read where it stands
-module _ (s : List ℕ) where
-  pub all_at : (es : List Entry) (i : ℕ) → AllRead s es → i < length es → ReadAt s (get_or es i no_entry)
-  all_at [] i a h = absurd (omega arith)
-  all_at (e ∷ es) zero a h = a.0
-  all_at (e ∷ es) (suc i) a h = all_at es i a.1 (omega arith)
-
-  all_more : (es : List Entry) (e : Entry) → AllRead s es → ReadAt s e → AllRead s (es ++ (e ∷ []))
-  all_more [] e a r = (r, tt)
-  all_more (x ∷ es) e a r = (a.0, all_more es e a.1 r)
+use Rattle.store_filter.specs.declared.MessagePlace.{MessagePlace}
+use Rattle.store_filter.specs.Filter.{Entry, entries_from, listed, message_in, without_entries, first_of, place_of, number_in, is_read, stands_at, ReadAt, AllRead, Listed}
 
 -- one message more
-module _ (s : List ℕ) (es : List Entry) (n : ℕ) (ids firsts places : List ℕ) (h : Listed s es n ids firsts places) (e : Entry) where
-  pub list_put : Room ids firsts places → n < base.items → ReadAt s e → (id first at : ℕ) → entry_id e ≡ id → entry_first e ≡ first → e.at ≡ at
-      → Listed s (listed es e) (n + 1) (set ids n id) (set firsts n first) (set places n at)
-  list_put r b q id first at p f a =
-      let more : (f : Entry → ℕ) (xs : List ℕ) (x : ℕ) → map f es ≡ take n xs → f e ≡ x → n < length xs → map f (es ++ (e ∷ [])) ≡ take (n + 1) (set xs n x) = λ f xs x u v l. rw (add-one n, take-suc-set xs n x l, map-append f es (e ∷ []), u, v) in
-      let t : listed es e ≡ es ++ (e ∷ []) = capped_more base.items es n h.count e b in
-      rw t (record {
-        count = length-append es (e ∷ []) ∙ ap (λ (k : ℕ). k + 1) h.count;
-        by_id = more entry_id ids id h.by_id p (omega (arith, r.0));
-        by_first = more entry_first firsts first h.by_first f (omega (arith, r.1));
-        by_place = more entry_place places at h.by_place a (omega (arith, r.2));
-        by_bytes = all_more s es e h.by_bytes q;
-      })
+all_more : (s : List ℕ) (es : List Entry) (e : Entry) → AllRead s es → ReadAt s e → AllRead s (es ++ (e ∷ []))
+all_more s [] e a r = (r, tt)
+all_more s (x ∷ es) e a r = (a.0, all_more s es e a.1 r)
 
-  pub list_full : n ≤ base.items → base.items ≤ n → Listed s (listed es e) n ids firsts places
-  list_full b l = rw (capped_same base.items es n h.count e b l) h
+pub list_push : (s : List ℕ) (es : List Entry) (ps : List MessagePlace) → Listed s es ps → (e : Entry) → ReadAt s e → (p : MessagePlace) → p ≡ place_of e
+    → Listed s (listed es e) (pushed base.items p ps)
+unfolding pushed
+list_push s es ps h e q p f = rw f (go (ltb (length ps) base.items) refl)
+  where
+    long : length ps ≡ length es
+    long = sym (ap length h.by_place) ∙ length-map es place_of
 
--- a message that stands at a place of the lists
-module _ (s : List ℕ) (es : List Entry) (n : ℕ) (ids firsts places : List ℕ) (h : Listed s es n ids firsts places) (i : ℕ) (b : i < n) where
-  number_at : (f : Entry → ℕ) (xs : List ℕ) → map f es ≡ take n xs → (z : ℕ) → z ≡ f no_entry → f (get_or es i no_entry) ≡ get_or xs i z
-  number_at f xs u z q =
-      sym (get_or-map f es i no_entry) ∙ (λ j. get_or (u j) i (sym q j)) ∙ get_or-take n xs i z b
-
-  pub id_at : entry_id (get_or es i no_entry) ≡ get_or ids i 0
-  id_at = number_at entry_id ids h.by_id 0 refl
-
-  pub first_at : entry_first (get_or es i no_entry) ≡ get_or firsts i 0
-  first_at = number_at entry_first firsts h.by_first 0 refl
-
-  pub place_at : (get_or es i no_entry).at ≡ get_or places i 0
-  place_at = number_at entry_place places h.by_place 0 refl
-
-  pub read_at : ReadAt s (get_or es i no_entry)
-  read_at = all_at s es i h.by_bytes (omega (arith, h.count))
-
-  rest : drop i es ≡ get_or es i no_entry ∷ drop (i + 1) es
-  rest = rw (add-one i, drop-cons es i no_entry (omega (arith, h.count)))
-
-  -- a turn of the search
-  module _ (x : SignedKeyGenMsgOf) (same : Bool) (e : same ≡ same_signed x (get_or es i no_entry).message) where
-    pub search_hit : same ≡ true → is_none (map message_in (drop i es)) x ≡ false
-    search_hit t = rw (rest, sym e ∙ t)
-
-    pub search_miss : same ≡ false → is_none (map message_in (drop i es)) x ≡ is_none (map message_in (drop (i + 1) es)) x
-    search_miss t = rw (rest, sym e ∙ t)
+    go : (b : Bool) → ltb (length ps) base.items ≡ b → Listed s (listed es e) (cond b (ps ++ (place_of e ∷ [])) ps)
+    go true b =
+        let l : length es < base.items = omega (arith, ltb-true (length ps) base.items b, long) in
+        let t : listed es e ≡ es ++ (e ∷ []) = capped_more base.items es (length es) refl e l in
+        rw t (record {
+          by_place = map-append place_of es (e ∷ []) ∙ ap (λ (xs : List MessagePlace). xs ++ (place_of e ∷ [])) h.by_place;
+          by_bytes = all_more s es e h.by_bytes q;
+          few = omega (arith, length-append es (e ∷ []), l);
+        })
+    go false b =
+        let t : listed es e ≡ es = capped_same base.items es (length es) refl e h.few (omega (arith, ltb-false (length ps) base.items b, long)) in
+        rw t (record { by_place = h.by_place; by_bytes = h.by_bytes; few = h.few })
 
 -- messages with different numbers differ
 pub other_by : (f : SignedKeyGenMsgOf → ℕ) (a b : SignedKeyGenMsgOf) → (f a ≡ f b → ⊥) → false ≡ same_signed a b
@@ -97,9 +61,45 @@ other_by f a b d = go (same_signed a b) refl
     go false e = sym e
 
 -- a stored message's first number
-pub first_in : (k : KeyGenKind) (h : Handles) → (body_of (message_of_kind k h)).first ≡ number_in k
-first_in (Part commit) h = refl
-first_in (Ack proposer) h = refl
+pub first_in : (m : KeyGenMessage) → (body_of (message_of m)).first ≡ number_in m
+first_in (Part p) = refl
+first_in (Ack a) = refl
+
+-- by the small numbers, and by what is read
+module _ (s : List ℕ) (x : SignedKeyGenMsgOf) (p : MessagePlace) where
+  pub at_other_id : (x.id ≡ p.id → ⊥) → false ≡ stands_at s x p
+  unfolding stands_at
+  at_other_id n = rw (ne_eqb x.id p.id n) refl
+
+  module _ (e : x.id ≡ p.id) where
+    pub at_other_first : (first_of x ≡ p.first → ⊥) → false ≡ stands_at s x p
+    unfolding stands_at
+    at_other_first n = rw (eq-eqb x.id p.id e, ne_eqb (first_of x) p.first n) refl
+
+    pub at_place : first_of x ≡ p.first → stands_at s x p ≡ is_read x (read_signed_key_gen_msg base s p.at)
+    unfolding stands_at
+    at_place f = rw (eq-eqb x.id p.id e, eq-eqb (first_of x) p.first f) refl
+
+-- a message is the one at a place if it equals the one that is read there
+stands : (s : List ℕ) (x : SignedKeyGenMsgOf) (e : Entry) → ReadAt s e → stands_at s x (place_of e) ≡ same_signed x e.message
+unfolding stands_at
+stands s x e q = go (eqb x.id e.message.id) refl (eqb (first_of x) (first_of e.message)) refl
+  where
+    go : (a : Bool) → eqb x.id e.message.id ≡ a → (b : Bool) → eqb (first_of x) (first_of e.message) ≡ b
+        → cond a (cond b (is_read x (read_signed_key_gen_msg base s e.at)) false) false ≡ same_signed x e.message
+    go true f true g = ap (is_read x) q.1
+    go true f false g = other_by first_of x e.message (eqb-false _ _ g)
+    go false f b g = other_by (λ (m : SignedKeyGenMsgOf). m.id) x e.message (eqb-false _ _ f)
+
+-- the search among the places says whether a message equals one of those listed
+pub none_stands : (s : List ℕ) (x : SignedKeyGenMsgOf) (es : List Entry) → AllRead s es → not (list_any (stands_at s x) (map place_of es)) ≡ is_none (map message_in es) x
+none_stands s x [] a = refl
+none_stands s x (e ∷ es) a = go (stands_at s x (place_of e)) (stands s x e a.0) (none_stands s x es a.1)
+  where
+    go : (b : Bool) → b ≡ same_signed x e.message → not (list_any (stands_at s x) (map place_of es)) ≡ is_none (map message_in es) x
+        → not (b || list_any (stands_at s x) (map place_of es)) ≡ (is_other e.message x && is_none (map message_in es) x)
+    go true f h = rw (sym f) refl
+    go false f h = rw (sym f) h
 
 -- turns of the loop that reads messages at their places
 module _ (s : List ℕ) (n i at : ℕ) where
@@ -121,11 +121,16 @@ unfolding entries_from read_signed_key_gen_msg
 entries_past s zero at h = refl
 entries_past s (suc n) at h = rw (read_cut 8 s (at + 8) (omega arith))
 
--- a loop over the contributions below a count
-module _ (s : List ℕ) (array : List Contrib) (count i : ℕ) where
-  pub contribs_end : length (take count array) ≤ i → foldl (contrib_listed s) [] (take i (take count array)) ≡ entries_in s (take count array)
-  unfolding entries_in
-  contribs_end h = ap (λ (ks : List Contrib). foldl (contrib_listed s) [] ks) (take_all i (take count array) h)
+-- where they are listed
+pub none_at : (s : List ℕ) (x : SignedKeyGenMsgOf) (es : List Entry) (ps : List MessagePlace) → Listed s es ps → not (list_any (stands_at s x) ps) ≡ is_none (map message_in es) x
+none_at s x es ps h = ap (λ (qs : List MessagePlace). not (list_any (stands_at s x) qs)) (sym h.by_place) ∙ none_stands s x es h.by_bytes
+
+pub as_many : (s : List ℕ) (es : List Entry) (ps : List MessagePlace) → Listed s es ps → length es ≡ length ps
+as_many s es ps h = sym (length-map es place_of) ∙ ap length h.by_place
+
+-- before the first
+pub none_yet : (s : List ℕ) → Listed s [] []
+none_yet s = record { by_place = refl; by_bytes = tt; few = omega arith }
 
 -- where nothing is listed, or nothing is stored, the store stays
 pub none_listed : (es : List Entry) → length es ≡ 0 → (store : List SignedKeyGenMsgOf) → store ≡ without_entries es store
@@ -133,6 +138,7 @@ unfolding without_entries
 none_listed [] e store = without_all [] store
 none_listed (x ∷ es) e store = absurd (omega arith)
 
-pub none_stored : (es : List Entry) (array : List SignedKeyGenMsg) (count : ℕ) → count ≡ 0 → map signed_of (take count array) ≡ without_entries es (map signed_of (take count array))
+pub none_stored : (es : List Entry) (store : List SignedKeyGenMsgOf) → length store ≡ 0 → store ≡ without_entries es store
 unfolding without_entries filter
-none_stored es array count e = rw e
+none_stored es [] e = refl
+none_stored es (x ∷ store) e = absurd (omega arith)

@@ -1,15 +1,16 @@
 -- 01, step 4: stored messages equal to a committed one go; here once for all messages of a batch, by the places where they stand in its bytes.
-use Rattle.std.specs.Prelude.{ℕ, zero, suc, ◌+◌, ◌≡◌, List, [], ◌∷◌, ◌++◌, map, length, take}
+use Rattle.std.specs.Prelude.{ℕ, zero, suc, ◌+◌, ◌≤◌, ◌≡◌, List, [], ◌∷◌, ◌++◌, map, length, take, Bool, false, cond, eqb}
 use Rattle.lists.specs.Lists.{filter}
 use Rattle.bincode.specs.Read.{Read, value, refuse}
 use Rattle.bincode.specs.Items.{foldl}
 use Rattle.bincode.specs.Sizes.{base}
-use Rattle.key_gen_message.specs.declared.KeyGenKind.{KeyGenKind}
-use Rattle.key_gen_message.specs.declared.KeyGenKind.TheVariants as kind
-use Rattle.key_gen_message.specs.KeyGenMessage.{SignedKeyGenMsgOf, read_signed_key_gen_msg}
+use Rattle.key_gen_message.specs.declared.KeyGenMessage.{KeyGenMessage}
+use Rattle.key_gen_message.specs.declared.KeyGenMessage.TheVariants.{Part, Ack}
+use Rattle.key_gen_message.specs.KeyGenMessage.{SignedKeyGenMsgOf, read_signed_key_gen_msg, same_signed}
 use Rattle.key_gen_message.specs.Head.{head_of}
 use Rattle.internal_contrib.specs.declared.Contrib.{Contrib}
 use Rattle.steps.specs.Kept.{is_none}
+use Rattle.store_filter.specs.declared.MessagePlace.{MessagePlace}
 
 -- a key message with the position where it stands
 pub record Entry : Type 0 where
@@ -44,22 +45,28 @@ message_in e = e.message
 unfoldable pub without_entries : List Entry → List SignedKeyGenMsgOf → List SignedKeyGenMsgOf
 without_entries es store = filter (is_none (map message_in es)) store
 
--- the entries as lent lists hold them: the signer, the commitment or proposer's index, and the position of each
-abbrev pub entry_id : Entry → ℕ
-entry_id e = e.message.id
-
+-- an entry by small numbers: the signer, the commitment or proposer's index, and the position
 abbrev pub first_of : SignedKeyGenMsgOf → ℕ
 first_of m = (head_of m).first
 
-abbrev pub entry_first : Entry → ℕ
-entry_first e = first_of e.message
+abbrev pub place_of : Entry → MessagePlace
+place_of e = record { id = e.message.id; first = first_of e.message; at = e.at }
 
-abbrev pub entry_place : Entry → ℕ
-entry_place e = e.at
+abbrev pub no_place : MessagePlace
+no_place = record { id = 0; first = 0; at = 0 }
 
-abbrev pub number_in : KeyGenKind → ℕ
-number_in (kind.Part commit) = commit
-number_in (kind.Ack proposer) = proposer
+abbrev pub number_in : KeyGenMessage → ℕ
+number_in (Part p) = p.commit
+number_in (Ack a) = a.proposer
+
+-- a message is the one that is read; it equals none that is not
+abbrev pub is_read : SignedKeyGenMsgOf → Read SignedKeyGenMsgOf → Bool
+is_read x (value m c) = same_signed x m
+is_read x (refuse k) = false
+
+-- a message is the one that stands at a place: what is read there is compared only where the small numbers agree
+unfoldable pub stands_at : List ℕ → SignedKeyGenMsgOf → MessagePlace → Bool
+stands_at s x p = cond (eqb x.id p.id) (cond (eqb (first_of x) p.first) (is_read x (read_signed_key_gen_msg base s p.at)) false) false
 
 -- each is read where it stands
 abbrev pub ReadAt : List ℕ → Entry → Type 0
@@ -69,13 +76,8 @@ abbrev pub AllRead : List ℕ → List Entry → Type 0
 AllRead s [] = Unit {0}
 AllRead s (e ∷ es) = ReadAt s e × AllRead s es
 
-pub record Listed (s : List ℕ) (es : List Entry) (n : ℕ) (ids firsts places : List ℕ) : Type 0 where
-  pub count : length es ≡ n
-  pub by_id : map entry_id es ≡ take n ids
-  pub by_first : map entry_first es ≡ take n firsts
-  pub by_place : map entry_place es ≡ take n places
+-- entries by their places, no more than a batch may have
+pub record Listed (s : List ℕ) (es : List Entry) (ps : List MessagePlace) : Type 0 where
+  pub by_place : map place_of es ≡ ps
   pub by_bytes : AllRead s es
-
--- the lists have as many places as a batch may have messages
-abbrev pub Room : List ℕ → List ℕ → List ℕ → Type 0
-Room ids firsts places = (length ids ≡ base.items) × (length firsts ≡ base.items) × (length places ≡ base.items)
+  pub few : length es ≤ base.items

@@ -1,6 +1,7 @@
 -- A part and an ack of key generation: as code holds them, as they are read and written.
-use Rattle.std.specs.Prelude.{ℕ, ◌^◌, ◌≤◌, ◌<◌, List, [], ◌∷◌, ◌++◌, Bool, length, take, eqb}
+use Rattle.std.specs.Prelude.{ℕ, ◌^◌, ◌≤◌, ◌<◌, List, [], ◌∷◌, ◌++◌, Bool, length, eqb}
 use Rattle.lists.specs.Lists.{padded, eq_list}
+use Rattle.array_list.specs.ArrayList.{items_in}
 use Rattle.bincode.specs.Read.{Read, value, bind}
 use Rattle.bincode.specs.Numbers.{read_num, bytes_of, fixed}
 use Rattle.bincode.specs.Sizes.{Sizes, base}
@@ -12,10 +13,10 @@ use Rattle.sync_key_gen.specs.declared.Ack.{Ack}
 
 -- the handles of any value of the struct, and the struct that holds a list of them
 abbrev pub handles_of : Handles → List ℕ
-handles_of h = take h.count h.values
+handles_of h = items_in h.values
 
 abbrev pub handles_held : List ℕ → Handles
-handles_held xs = record { count = length xs; values = padded base.rows 0 xs }
+handles_held xs = record { values = record { count = length xs; items = padded base.rows 0 xs } }
 
 abbrev pub same_handles : List ℕ → List ℕ → Bool
 same_handles = eq_list eqb
@@ -35,6 +36,13 @@ read_handles z s at = counted (plain (read_num 8 s)) stay fixed s z.rows tt at
 
 unfoldable pub handles_bytes : List ℕ → List ℕ
 handles_bytes xs = bytes_of 8 (length xs) ++ concat_map (bytes_of 8) xs
+
+-- a number with handles behind it, as a part and an ack both are
+unfoldable pub read_headed : Sizes → List ℕ → ℕ → Read (ℕ × List ℕ)
+read_headed z s at =
+    bind (read_num 8 s at) λ head c.
+    bind (read_handles z s c) λ xs d.
+    value (head, xs) d
 
 unfoldable pub read_part : Sizes → List ℕ → ℕ → Read PartOf
 read_part z s at =
@@ -77,6 +85,9 @@ part_of p = record { commit = p.commit; rows = handles_of p.rows }
 
 abbrev pub ack_of : Ack → AckOf
 ack_of a = record { proposer = a.proposer; values = handles_of a.values }
+
+abbrev pub headed_held : ℕ × List ℕ → ℕ × Handles
+headed_held p = (p.0, handles_held p.1)
 
 abbrev pub part_held : PartOf → Part
 part_held p = record { commit = p.commit; rows = handles_held p.rows }

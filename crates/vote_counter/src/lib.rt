@@ -67,21 +67,15 @@ pub struct VoteSigned {
 fn is_obsolete(votes: SignedVotes, x: SignedVote) -> bool
     ensures { result ≡ obsolete (votes_of votes) (signed_of x) }
 {
-    let vote = x.vote;
-    match votes.num_of(x.voter) {
-        Some(old) => vote.num <= old,
-        None => false,
-    }
+    let num = x.vote.num;
+    votes.num_of(x.voter).is_some_and(|old| num <= old)
 }
 
 // Whether a vote is signed under its voter's key of a map.
 fn is_valid(map: PubKeyMap, x: SignedVote) -> bool
     ensures { result ≡ is_key x.sig (key_of (nodes_of map) x.voter) }
 {
-    match network_info::node_key(map, x.voter) {
-        Some(key) => key == x.sig,
-        None => false,
-    }
+    network_info::node_key(map, x.voter) == Some(x.sig)
 }
 
 // A vote of a batch among the committed votes: number, then era, then signature. One exit: so the votes that stay are not copied.
@@ -223,20 +217,12 @@ impl VoteCounter {
     pub fn pending_vote(self, place: usize) -> Option<SignedVote>
         ensures { option_as_found signed_of result ≡ at_place place (pending_votes (counter_of self)) }
     {
-        let pending = self.pending;
         let committed = self.committed;
-        let n = pending.len();
-        let mut left = place;
-        for i in 0..n {
-            let x = pending.votes[i];
-            if !is_obsolete(committed, x) {
-                if left == 0 {
-                    return Some(x);
-                }
-                left -= 1;
-            }
-        }
-        None
+        let pending = self.pending.votes.as_slice().iter();
+        pending
+            .filter(|x| !is_obsolete(committed, **x))
+            .nth(place)
+            .copied()
     }
 
     // The row of the board at a place, 0 first, as the counter holds it.
@@ -254,18 +240,13 @@ impl VoteCounter {
             × ((i : ℕ) → result ≡ Some i → i < length (votes_of self.committed))
             × (option_as_found (λ (x : ℕ). x) result ≡ winner_at (counter_of self)) }
     {
-        let map = self.pub_keys;
-        let f = network_info::num_faulty(map);
-        let committed = self.committed;
-        let n = committed.len();
+        let f = network_info::num_faulty(self.pub_keys);
+        let committed = self.committed.votes.as_slice();
         let mut won = None;
-        'voters: for i in 0..n {
-            let x = committed.votes[i];
-            let vote = x.vote;
-            let change = vote.change;
+        'voters: for (i, x) in committed.iter().enumerate() {
+            let change = x.vote.change;
             let mut count: usize = 0;
-            for j in 0..i + 1 {
-                let other = committed.votes[j];
+            for other in &committed[..=i] {
                 if other.is_for(change) {
                     count += 1;
                     if f < count {

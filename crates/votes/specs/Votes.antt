@@ -64,6 +64,10 @@ signed_of x = record { vote = vote_of x.vote; voter = x.voter; sig = x.sig }
 abbrev pub signed_held : SignedVoteOf → SignedVote
 signed_held x = record { vote = vote_held x.vote; voter = x.voter; sig = x.sig }
 
+-- what a list of signed votes goes by
+abbrev pub voter_in : SignedVote → ℕ
+voter_in x = x.voter
+
 -- what stands where no vote is held
 abbrev pub no_vote : VoteOf
 no_vote = record { change = node_change []; era = 0; num = 0 }

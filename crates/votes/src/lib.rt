@@ -7,10 +7,11 @@ ghost use Rattle.bincode.specs.Sizes.{base};
 ghost use Rattle.bincode.specs.Writing.{written, written_to};
 ghost use Rattle.change.specs.Change.{change_of, same_change};
 ghost use Rattle.votes.specs.VoteHead.{head_of};
-ghost use Rattle.votes.specs.Votes.{vote_of, vote_held, no_vote, read_vote, vote_bytes, signed_of, signed_held, no_signed, read_signed_vote, signed_bytes};
+ghost use Rattle.votes.specs.Votes.{vote_of, vote_held, no_vote, read_vote, vote_bytes, signed_of, signed_held, no_signed, read_signed_vote, signed_bytes, voter_in};
 
-use bincode::Refusal;
-use change::{Change, ChangeKind};
+use array_list::Keyed;
+use bincode::{Encoded, Refusal};
+use change::Change;
 use pub_key_map::PubKeyMap;
 
 #[derive(Clone, Copy)]
@@ -26,10 +27,7 @@ impl Vote {
         ensures { result ≡ vote_held no_vote }
     {
         Vote {
-            change: Change {
-                kind: ChangeKind::NodeChange,
-                map: PubKeyMap::empty(),
-            },
+            change: Change::NodeChange(PubKeyMap::empty()),
             era: 0,
             num: 0,
         }
@@ -59,9 +57,16 @@ impl SignedVote {
     pub fn is_for(self, change: Change) -> bool
         ensures { result ≡ same_change (signed_of self).vote.change (change_of change) }
     {
-        let vote = self.vote;
-        let own = vote.change;
-        own.same(change)
+        self.vote.change.same(change)
+    }
+}
+
+// Lists of signed votes go by the voter.
+impl Keyed for SignedVote {
+    ghost key_of = { voter_in };
+
+    fn key(&self) -> u32 {
+        self.voter
     }
 }
 
@@ -131,8 +136,7 @@ pub fn read_vote_head(s: &[u8], at: usize) -> Result<(VoteHead, usize), Refusal>
 pub fn vote_size(v: Vote) -> usize
     ensures { (result ≡ length (vote_bytes (vote_of v))) × (result ≤ 28 + 12 * base.nodes) }
 {
-    let change = v.change;
-    change::change_size(change) + 16
+    change::change_size(v.change) + 16
 }
 
 // The position behind the vote, or `at` where it has no room; then nothing is written.
@@ -140,8 +144,7 @@ pub fn write_vote(buf: &mut [u8], at: usize, v: Vote) -> usize
     ensures { (buf.new ≡ written buf.old at (vote_bytes (vote_of v))) × (result ≡ written_to buf.old at (vote_bytes (vote_of v))) }
 {
     if bincode::room(buf.len(), at, vote_size(v)) {
-        let change = v.change;
-        let b = change::write_change(buf, at, change);
+        let b = change::write_change(buf, at, v.change);
         let c = bincode::write_u64(buf, b, v.era);
         bincode::write_u64(buf, c, v.num)
     } else {
@@ -153,19 +156,29 @@ pub fn write_vote(buf: &mut [u8], at: usize, v: Vote) -> usize
 pub fn signed_vote_size(x: SignedVote) -> usize
     ensures { (result ≡ length (signed_bytes (signed_of x))) × (result ≤ 40 + 12 * base.nodes) }
 {
-    let vote = x.vote;
-    vote_size(vote) + 12
+    vote_size(x.vote) + 12
 }
 
 pub fn write_signed_vote(buf: &mut [u8], at: usize, x: SignedVote) -> usize
     ensures { (buf.new ≡ written buf.old at (signed_bytes (signed_of x))) × (result ≡ written_to buf.old at (signed_bytes (signed_of x))) }
 {
     if bincode::room(buf.len(), at, signed_vote_size(x)) {
-        let vote = x.vote;
-        let b = write_vote(buf, at, vote);
+        let b = write_vote(buf, at, x.vote);
         let c = bincode::write_u32(buf, b, x.voter);
         bincode::write_u64(buf, c, x.sig)
     } else {
         at
+    }
+}
+
+impl Encoded for SignedVote {
+    ghost bytes = { λ x. signed_bytes (signed_of x) };
+
+    fn size(&self) -> usize {
+        signed_vote_size(*self)
+    }
+
+    fn write(&self, buf: &mut [u8], at: usize) -> usize {
+        write_signed_vote(buf, at, *self)
     }
 }

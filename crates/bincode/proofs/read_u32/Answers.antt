@@ -1,7 +1,9 @@
-use mathlib.Core.Path.{sym, ◌∙◌}
+use Prim.Native.Nat.{◌+◌, ◌-◌}
+use mathlib.Core.Path.{◌≡◌, sym, ap, ◌∙◌}
 use native.Mathlib.Omega.{arith}
-use Rattle.bincode.specs.Numbers.{read_num}
-use Rattle.bincode.proofs.NumberLaws.{part_below}
+use lib.ListN.{take, drop}
+use Rattle.bincode.specs.Numbers.{le, read_num}
+use Rattle.bincode.proofs.ByteLaws.{from_le4}
 use Rattle.bincode.proofs.read_u32.Goals as goal
 
 pub returns-then-not-room : goal.returns-then-not-room
@@ -10,9 +12,8 @@ returns-then-not-room c = rw (sym c.room.ensures ∙ c.if-not-room.true)
 
 pub returns : goal.returns
 unfolding read_num
-returns c = rw (sym c.room.ensures ∙ c.if-not-room.false, c.num_at.ensures)
-
-pub overflow_cast-result : goal.overflow_cast-result
-overflow_cast-result c =
+returns c =
     let a = c.args in
-    record { fits = rw c.num_at.ensures (part_below a.s.now 4 a.at 4 (λ i. (c.type_inv.s i).fits) (omega arith)) }
+    let n : a.at + 4 - a.at ≡ 4 = omega arith in
+    let b : c.copy_from_slice.new.self ≡ take 4 (drop a.at a.s.now) = rw n at c.copy_from_slice.ensures.after in
+    rw (sym c.room.ensures ∙ c.if-not-room.false, c.from_le_bytes.ensures ∙ from_le4 _ c.copy_from_slice.ensures.len ∙ ap le b)

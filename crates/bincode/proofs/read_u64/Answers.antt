@@ -1,5 +1,9 @@
-use mathlib.Core.Path.{sym, ◌∙◌}
-use Rattle.bincode.specs.Numbers.{read_num}
+use Prim.Native.Nat.{◌+◌, ◌-◌}
+use mathlib.Core.Path.{◌≡◌, sym, ap, ◌∙◌}
+use native.Mathlib.Omega.{arith}
+use lib.ListN.{take, drop}
+use Rattle.bincode.specs.Numbers.{le, read_num}
+use Rattle.bincode.proofs.ByteLaws.{from_le8}
 use Rattle.bincode.proofs.read_u64.Goals as goal
 
 pub returns-then-not-room : goal.returns-then-not-room
@@ -8,4 +12,8 @@ returns-then-not-room c = rw (sym c.room.ensures ∙ c.if-not-room.true)
 
 pub returns : goal.returns
 unfolding read_num
-returns c = rw (sym c.room.ensures ∙ c.if-not-room.false, c.num_at.ensures)
+returns c =
+    let a = c.args in
+    let n : a.at + 8 - a.at ≡ 8 = omega arith in
+    let b : c.copy_from_slice.new.self ≡ take 8 (drop a.at a.s.now) = rw n at c.copy_from_slice.ensures.after in
+    rw (sym c.room.ensures ∙ c.if-not-room.false, c.from_le_bytes.ensures ∙ from_le8 _ c.copy_from_slice.ensures.len ∙ ap le b)

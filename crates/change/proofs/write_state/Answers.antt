@@ -8,8 +8,8 @@ returns-in-None c = rw (c.in-None.is, append-nil) c.write_u32.ensures
 
 pub returns-in-InProgress : goal.returns-in-InProgress
 unfolding state_bytes
-returns-in-InProgress c = rw c.in-InProgress.is c.write_tagged.ensures
+returns-in-InProgress c = rw c.in-InProgress.is c.write_both.ensures
 
 pub returns-in-Complete : goal.returns-in-Complete
 unfolding state_bytes
-returns-in-Complete c = rw c.in-Complete.is c.write_tagged-in-Complete.ensures
+returns-in-Complete c = rw c.in-Complete.is c.write_both-in-Complete.ensures

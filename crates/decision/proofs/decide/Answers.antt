@@ -1,29 +1,35 @@
-use mathlib.Core.Bool.{true, false}
-use mathlib.Core.Path.{◌≡◌, refl, sym, ap, ◌∙◌}
+use mathlib.Core.Bool.{false}
+use mathlib.Core.Path.{◌≡◌, sym, ap, ◌∙◌}
+use Rattle.std.specs.Prelude.{Some}
 use Rattle.std.specs.declared.option.Option.{Option}
-use Rattle.lists.specs.Lists.{Found}
 use Rattle.bincode.specs.Sizes.{base}
-use Rattle.change.specs.declared.Change.{Change}
-use Rattle.change.specs.Change.{state_of as progress_of}
+use Rattle.key_gen_state.specs.declared.KeyGenState.{KeyGenState}
 use Rattle.key_gen_state.specs.KeyGenState as running
-use Rattle.decision.specs.Decision.{parts_of, decided_of, elected_of, completed_by, elected_by}
-use Rattle.decision.proofs.DecisionLaws.{same_decision, ready_runs, by_ready, by_elects}
+use Rattle.decision.specs.Decision.{parts_of, elected_of, decide_by, elected_by}
+use Rattle.decision.proofs.DecisionLaws.{by_ready, by_elects}
 use Rattle.decision.proofs.decide.Goals as goal
+use Rattle.decision.proofs.decide.Goals.{in_default-via-in-Some+else-is_ready, in_default-via-in_default}
 
-pub returns-then-is_ready : goal.returns-then-is_ready
-returns-then-is_ready c =
+pub returns-in-Some : goal.returns-in-Some
+returns-in-Some c =
     let a = c.args in
-    let ready : running.ready_state (running.state_of a.state) ≡ true = sym c.is_ready.ensures ∙ c.if-is_ready.true in
-    λ st l. let s = parts_of a.params a.counter a.state st l in c.complete.ensures st l ∙ ap (λ (g : Found running.KeyGenStateOf). completed_by a.era s g) (sym (ready_runs a.state ready)) ∙ sym (by_ready base a.era s (elected_of a.e) ready)
+    λ st l. c.complete.ensures st l
+    ∙ sym (by_ready base a.era (parts_of a.params a.counter (Some c.in-Some.running) st l) (elected_of a.e) (sym c.is_ready.ensures ∙ c.if-is_ready.true))
+    ∙ sym (ap (λ (k : Option KeyGenState). decide_by base a.era (parts_of a.params a.counter k st l) (elected_of a.e)) c.in-Some.is)
 
 pub returns-in_default : goal.returns-in_default
 returns-in_default c =
     let a = c.args in
-    let unready : running.ready_state (running.state_of a.state) ≡ false = sym c.is_ready.ensures ∙ c.if-is_ready.false in
-    λ st l. let s = parts_of a.params a.counter a.state st l in ap (decided_of a.era st l) c.decided.ensures ∙ same_decision refl (ap progress_of c.none.ensures) refl refl ∙ ap (λ (e : Option Change). elected_by base a.era s (elected_of e)) (sym c.in_default.is) ∙ sym (by_elects base a.era s (elected_of a.e) unready)
-
-pub returns : goal.returns
-returns c =
-    let a = c.args in
-    let unready : running.ready_state (running.state_of a.state) ≡ false = sym c.is_ready.ensures ∙ c.if-is_ready.false in
-    λ st l. let s = parts_of a.params a.counter a.state st l in c.change_wins.ensures st l ∙ ap (λ (e : Option Change). elected_by base a.era s (elected_of e)) (sym c.in-Some.is) ∙ sym (by_elects base a.era s (elected_of a.e) unready)
+    elim c.in_default.branch [
+      | in_default-via-in-Some+else-is_ready w ↦
+          let same : c.in_default.state ≡ a.state = w.state-is ∙ sym w.in-Some.is in
+          let unready : running.ready_state (running.state_of a.state) ≡ false = ap (λ (k : Option KeyGenState). running.ready_state (running.state_of k)) w.in-Some.is ∙ sym w.is_ready.ensures ∙ w.if-is_ready.false in
+          λ st l. c.elected.ensures st l
+          ∙ ap (λ (k : Option KeyGenState). elected_by base a.era (parts_of a.params a.counter k st l) (elected_of a.e)) same
+          ∙ sym (by_elects base a.era (parts_of a.params a.counter a.state st l) (elected_of a.e) unready)
+      | in_default-via-in_default w ↦
+          let unready : running.ready_state (running.state_of a.state) ≡ false = ap (λ (k : Option KeyGenState). running.ready_state (running.state_of k)) w.in_default.is in
+          λ st l. c.elected.ensures st l
+          ∙ ap (λ (k : Option KeyGenState). elected_by base a.era (parts_of a.params a.counter k st l) (elected_of a.e)) w.state-is
+          ∙ sym (by_elects base a.era (parts_of a.params a.counter a.state st l) (elected_of a.e) unready)
+    ]

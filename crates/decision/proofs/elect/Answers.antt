@@ -1,3 +1,4 @@
+use Rattle.std.proofs.Common.{rules}
 use mathlib.Core.Path.{◌≡◌, sym, ap, ◌∙◌}
 use Prim.Native.Nat.{ℕ}
 use native.Mathlib.Omega.{arith}
@@ -26,18 +27,18 @@ returns-in_err-i c =
 pub offset_bounds-committed-i : goal.offset_bounds-committed-i
 offset_bounds-committed-i c =
     let x = c.args.counter.committed in
-    let l : length x.votes ≡ base.nodes = c.well_formed.0.1.1.1.1.1.1.1.0.1.1.1.0.1.0.1 in
-    omega (arith, (place_within signed_of x.votes x.count _ (c.compute_winner.ensures.1 _ c.in_ok-i.was)).1)
+    let l : length x.votes.items ≡ base.nodes = search rules in
+    omega (arith, (place_within signed_of x.votes.items x.votes.count _ (c.compute_winner.ensures.1 _ c.in_ok-i.was)).1)
 
 pub bounds-committed-i : goal.bounds-committed-i
 bounds-committed-i c =
     let x = c.args.counter.committed in
-    let l : length x.votes ≡ base.nodes = c.well_formed.0.1.1.1.1.1.1.1.0.1.1.1.0.1.0.1 in
-    omega (arith, (place_within signed_of x.votes x.count _ (c.compute_winner.ensures.1 _ c.in_ok-i.was)).1)
+    let l : length x.votes.items ≡ base.nodes = search rules in
+    omega (arith, (place_within signed_of x.votes.items x.votes.count _ (c.compute_winner.ensures.1 _ c.in_ok-i.was)).1)
 
 pub returns : goal.returns
 returns c =
     let x = c.args.counter.committed in
-    sym (ap (λ (v : SignedVoteOf). found v.vote.change) (view_at signed_of x.votes x.count _ (c.compute_winner.ensures.1 _ c.in_ok-i.was) _ no_signed))
+    sym (ap (λ (v : SignedVoteOf). found v.vote.change) (view_at signed_of x.votes.items x.votes.count _ (c.compute_winner.ensures.1 _ c.in_ok-i.was) _ no_signed))
     ∙ sym (ap (λ (w : Option ℕ). map_found (choice_at (votes_of x)) (option_as_found (λ (k : ℕ). k) w)) c.in_ok-i.was)
     ∙ c.compute_winner.ensures.0

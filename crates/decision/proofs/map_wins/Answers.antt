@@ -5,24 +5,22 @@ use Rattle.bincode.specs.Sizes.{base}
 use Rattle.pub_key_map.specs.PubKeyMap.{nodes_of}
 use Rattle.change.specs.Change.{in_progress}
 use Rattle.due.specs.declared.DueKind.TheVariants.{Part}
-use Rattle.decision.specs.Decision.{parts_of, decided_of}
+use Rattle.decision.specs.Decision.{parts_of}
 use Rattle.decision.proofs.DecisionLaws.{same_decision, map_begun, map_again, map_new}
 use Rattle.decision.proofs.map_wins.Goals as goal
 
 pub returns-then-is_candidate : goal.returns-then-is_candidate
 returns-then-is_candidate c =
     let a = c.args in
-    λ st l. ap (decided_of a.era st l) c.decided.ensures
-    ∙ same_decision refl (c.in_progress-change.ensures ∙ ap in_progress c.node_change.ensures) refl refl
+    λ st l. same_decision refl (c.in_progress-change.ensures ∙ ap in_progress c.node_change.ensures) refl refl
     ∙ sym (map_again base a.era (parts_of a.params a.counter a.state st l) (nodes_of a.map) (sym c.is_candidate.ensures ∙ c.if-is_candidate.true))
 
 pub returns : goal.returns
 returns c =
     let a = c.args in
-    λ st l. ap (decided_of a.era st l) c.decided-2.ensures
-    ∙ same_decision
-    (map_begun a.era a.counter c.new-next.result a.map a.params a.state c.new-begun.result c.renew.result st l c.new-next.ensures c.renew.ensures c.new-begun.ensures)
+    λ st l. same_decision
+    (map_begun a.era a.counter c.new.result a.map a.params a.state c.new-2.result c.new-begun.result st l c.new.ensures c.new-begun.ensures c.new-2.ensures)
     (c.in_progress-change.ensures ∙ ap in_progress c.node_change.ensures)
-    (ap (λ (b : Bool). cond b (record { kind = Part; era = a.era } ∷ []) []) c.is_member-part_due.ensures)
+    (ap (λ (b : Bool). cond b (record { kind = Part; era = a.era } ∷ []) []) c.is_member.ensures)
     refl
     ∙ sym (map_new base a.era (parts_of a.params a.counter a.state st l) (nodes_of a.map) (sym c.is_candidate.ensures ∙ c.if-is_candidate.false))

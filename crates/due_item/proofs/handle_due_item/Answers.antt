@@ -1,5 +1,4 @@
-use mathlib.Core.Path.{◌≡◌, refl, sym, ap, ◌∙◌, subst}
-use lib.ListN.{length}
+use mathlib.Core.Path.{refl, sym, ap, ◌∙◌, subst}
 use Rattle.std.specs.declared.option.Option.{Option}
 use Rattle.std.specs.declared.result.Result.{Result}
 use Rattle.std.specs.declared.result.Result.TheVariants.{Ok}
@@ -19,8 +18,7 @@ pub returns-in-Ok-Some : goal.returns-in-Ok-Some
 returns-in-Ok-Some c =
     let d = c.args.state in
     let s = state_of d in
-    let places : length d.store.messages ≡ base.store = c.well_formed.0.1.1.1.1.1.0.1.1.1.0.1.0.1 in
-    let h = subst (λ (f : Result (Option SignedKeyGenMsg) Refusal). FatedAs base s (returned base s c.args.message.now) f) (c.in-Ok-Some.is ∙ ap Ok c.in-Ok-Some.field-0-is) (c.fate.ensures s refl refl refl (full_by_count d.store places)) in
+    let h = subst (λ (f : Result (Option SignedKeyGenMsg) Refusal). FatedAs base s (returned base s c.args.message.now) f) (c.in-Ok-Some.is ∙ ap Ok c.in-Ok-Some.field-0-is) (c.fate.ensures s refl refl refl (full_by_count d.store _ c.len.ensures.0)) in
     let x = c.push-p in
     (sym (h.1 ∙ ap (stored_in s s) (push_stored base (store_of d.store) (signed_of c.in-Ok-Some.m) h.0 x.result.outcome x.result.store x.ensures.0)), λ n e. absurd (cross e))
 
@@ -28,12 +26,10 @@ pub returns-in-Ok-None : goal.returns-in-Ok-None
 returns-in-Ok-None c =
     let d = c.args.state in
     let s = state_of d in
-    let places : length d.store.messages ≡ base.store = c.well_formed.0.1.1.1.1.1.0.1.1.1.0.1.0.1 in
-    (sym (subst (λ (f : Result (Option SignedKeyGenMsg) Refusal). FatedAs base s (returned base s c.args.message.now) f) (c.in-Ok-None.is ∙ ap Ok c.in-Ok-None.field-0-is) (c.fate.ensures s refl refl refl (full_by_count d.store places))), λ n e. refl)
+    (sym (subst (λ (f : Result (Option SignedKeyGenMsg) Refusal). FatedAs base s (returned base s c.args.message.now) f) (c.in-Ok-None.is ∙ ap Ok c.in-Ok-None.field-0-is) (c.fate.ensures s refl refl refl (full_by_count d.store _ c.len.ensures.0))), λ n e. refl)
 
 pub returns-in-Err : goal.returns-in-Err
 returns-in-Err c =
     let d = c.args.state in
     let s = state_of d in
-    let places : length d.store.messages ≡ base.store = c.well_formed.0.1.1.1.1.1.0.1.1.1.0.1.0.1 in
-    (sym (subst (λ (f : Result (Option SignedKeyGenMsg) Refusal). FatedAs base s (returned base s c.args.message.now) f) c.in-Err.is (c.fate.ensures s refl refl refl (full_by_count d.store places))), λ n e. refl)
+    (sym (subst (λ (f : Result (Option SignedKeyGenMsg) Refusal). FatedAs base s (returned base s c.args.message.now) f) c.in-Err.is (c.fate.ensures s refl refl refl (full_by_count d.store _ c.len.ensures.0))), λ n e. refl)

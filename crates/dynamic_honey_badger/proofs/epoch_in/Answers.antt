@@ -1,17 +1,8 @@
-use borrow.Author.Tests.{lt-ltb, le-ltb}
-use Prim.Native.Nat.{◌+◌}
-use native.Mathlib.Omega.{arith}
-use Rattle.dynamic_honey_badger.specs.Asked.{row5}
+use Rattle.std.proofs.Common.{rules, tests}
+use mathlib.Core.Path.{ap, ◌∙◌}
+use Rattle.dynamic_honey_badger.specs.Asked.{said_next}
+use Rattle.dynamic_honey_badger.proofs.AskedLaws.{epoch_filtered}
 use Rattle.dynamic_honey_badger.proofs.epoch_in.Goals as goal
 
-pub returns-then-last-era : goal.returns-then-last-era
-unfolding row5
-returns-then-last-era c = rw (lt-ltb 18446744073709551614 (c.args.era + c.args.inner) (omega (arith, c.if-last-era.true)))
-
-pub returns-then-last-era-2 : goal.returns-then-last-era-2
-unfolding row5
-returns-then-last-era-2 c = rw (lt-ltb 18446744073709551614 (c.args.era + c.args.inner) (omega (arith, c.if-last-era-2.true, c.if-last-era.false)))
-
 pub returns : goal.returns
-unfolding row5
-returns c = rw (le-ltb 18446744073709551614 (c.args.era + c.args.inner) (omega (arith, c.if-last-era-2.false, c.if-last-era.false)))
+returns c = ap said_next c.ok_or.ensures.value ∙ epoch_filtered c.args.era c.args.inner _ (λ x b k. search (rules, tests)) _ _ c.checked_add-epoch.ensures c.filter.ensures

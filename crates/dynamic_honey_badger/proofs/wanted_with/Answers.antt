@@ -18,15 +18,15 @@ returns-then-key-eq0 c =
 pub returns-then-is_full_for : goal.returns-then-is_full_for
 returns-then-is_full_for c =
     let a = c.args in
-    λ s m i. sym (add_full base s a.id a.key c.if-key-eq0.false (validator s _ _ _ m i (sym c.is_member.ensures ∙ c.if-is_member.true)) (ap (λ (ns : List Node). row13 base ns a.id) m ∙ sym c.is_full_for.ensures ∙ c.if-is_full_for.true))
-
-pub returns-then-is_member : goal.returns-then-is_member
-returns-then-is_member c =
-    let a = c.args in
-    let w = c.node_change.ensures ∙ ap node_change (c.with_node-next.ensures ∙ ap (with_node base (nodes_of a.map)) c.new.ensures) in
-    λ s m i. wanted_cast base s _ (validator s _ _ _ m i (sym c.is_member.ensures ∙ c.if-is_member.true)) ∙ ap (vote_for base s) (w ∙ ap {B = ChangeOf} (λ (ns : List Node). node_change (with_node base ns (record { id = a.id; key = a.key }))) (sym m)) ∙ sym (add_voted base s a.id a.key c.if-key-eq0.false (validator s _ _ _ m i (sym c.is_member.ensures ∙ c.if-is_member.true)) (ap (λ (ns : List Node). row13 base ns a.id) m ∙ sym c.is_full_for.ensures ∙ c.if-is_full_for.false))
+    λ s m i. sym (add_full base s a.id a.key c.if-key-eq0.false (validator s _ _ _ m i (sym c.is_member.ensures ∙ c.if-not-is_member.false)) (ap (λ (ns : List Node). row13 base ns a.id) m ∙ sym c.is_full_for.ensures ∙ c.if-is_full_for.true))
 
 pub returns : goal.returns
 returns c =
     let a = c.args in
-    λ s m i. sym (add_nothing base s a.id a.key c.if-key-eq0.false (validator s _ _ _ m i (sym c.is_member.ensures ∙ c.if-is_member.false)))
+    let w = c.node_change.ensures ∙ ap node_change (c.with_node-next.ensures ∙ ap (with_node base (nodes_of a.map)) c.new.ensures) in
+    λ s m i. wanted_cast base s _ (validator s _ _ _ m i (sym c.is_member.ensures ∙ c.if-not-is_member.false)) ∙ ap (vote_for base s) (w ∙ ap {B = ChangeOf} (λ (ns : List Node). node_change (with_node base ns (record { id = a.id; key = a.key }))) (sym m)) ∙ sym (add_voted base s a.id a.key c.if-key-eq0.false (validator s _ _ _ m i (sym c.is_member.ensures ∙ c.if-not-is_member.false)) (ap (λ (ns : List Node). row13 base ns a.id) m ∙ sym c.is_full_for.ensures ∙ c.if-is_full_for.false))
+
+pub returns-then-not-is_member : goal.returns-then-not-is_member
+returns-then-not-is_member c =
+    let a = c.args in
+    λ s m i. sym (add_nothing base s a.id a.key c.if-key-eq0.false (validator s _ _ _ m i (sym c.is_member.ensures ∙ c.if-not-is_member.true)))

@@ -9,14 +9,14 @@ use Rattle.dynamic_honey_badger.proofs.OwnVotesLaws.{vote_nothing}
 use Rattle.dynamic_honey_badger.proofs.PartsLaws.{validator, wanted_cast}
 use Rattle.dynamic_honey_badger.proofs.wanted_without.Goals as goal
 
-pub returns-then-is_member : goal.returns-then-is_member
-unfolding vote_to_remove
-returns-then-is_member c =
-    let a = c.args in
-    let w = c.node_change.ensures ∙ ap node_change c.without_node-next.ensures in
-    λ s m i. wanted_cast base s _ (validator s _ _ _ m i (sym c.is_member.ensures ∙ c.if-is_member.true)) ∙ ap (vote_for base s) (w ∙ ap {B = ChangeOf} (λ (ns : List Node). node_change (without_node ns a.id)) (sym m))
-
 pub returns : goal.returns
 unfolding vote_to_remove
 returns c =
-    λ s m i. sym (vote_nothing base s _ (validator s _ _ _ m i (sym c.is_member.ensures ∙ c.if-is_member.false)))
+    let a = c.args in
+    let w = c.node_change.ensures ∙ ap node_change c.without_node-next.ensures in
+    λ s m i. wanted_cast base s _ (validator s _ _ _ m i (sym c.is_member.ensures ∙ c.if-not-is_member.false)) ∙ ap (vote_for base s) (w ∙ ap {B = ChangeOf} (λ (ns : List Node). node_change (without_node ns a.id)) (sym m))
+
+pub returns-then-not-is_member : goal.returns-then-not-is_member
+unfolding vote_to_remove
+returns-then-not-is_member c =
+    λ s m i. sym (vote_nothing base s _ (validator s _ _ _ m i (sym c.is_member.ensures ∙ c.if-not-is_member.true)))

@@ -22,7 +22,7 @@ returns-then-n-gt-CONTRIBS c = ap indexed (sym (index_over base _ c.if-s-gt-BYTE
 
 pub loop-i-init : goal.loop-i-init
 loop-i-init c =
-    index_start base _ _ _ (num_read 8 _ _ c.read_u64.ensures c.in-Ok.is) c.if-n-gt-CONTRIBS.false _ c.new-b.ensures _ (ap (λ (x : BatchIndex). x.contribs) c.empty-none.ensures)
+    index_start base _ _ _ (num_read 8 _ _ c.read_u64.ensures c.in-Ok.is) c.if-n-gt-CONTRIBS.false _ c.new-b.ensures _ (ap (λ (x : BatchIndex). x.contribs.items) c.empty-none.ensures)
 
 pub returns-in_err-e : goal.returns-in_err-e
 returns-in_err-e c =
@@ -47,5 +47,5 @@ pub returns : goal.returns
 returns c =
     let l = c.loop-i in
     let w = l.invariant in
-    ap done (λ t. (record { count = index_count base _ _ _ _ _ _ _ w c.loop-i-test.false t; contribs = w.noted t }, w.tally t))
+    ap done (λ t. (record { contribs = record { count = index_count base _ _ _ _ _ _ _ w c.loop-i-test.false t; items = w.noted t } }, w.tally t))
     ∙ ap indexed (sym (index_done base _ _ _ _ _ _ _ w c.if-s-gt-BYTES.false c.loop-i-test.false c.if-c-s.false))

@@ -27,17 +27,19 @@ returns-in_err-user_count c =
     u.2 ∙ ap (answer (placed c.args.at)) (sym (contrib_no_user base _ _ _ _ _ (num_read 4 _ _ c.read_u32.ensures c.in-Ok.is) (omega (arith, c.from.ensures, c.if-from-b.false)) _ u.1))
 
 pub returns-in_err-message_count : goal.returns-in_err-message_count
+unfolding read_messages read_votes
 returns-in_err-message_count c =
     let u = answer_ok length (read_user base _ _) _ _ (sym c.read_user.ensures ∙ c.in_ok-user_count.was) in
-    let m = answer_exit length (read_messages base _ _ _) _ (sym c.read_messages.ensures ∙ c.in_err-message_count.was) _ c.from_residual-in_err-message_count.ensures.1 in
+    let m = answer_exit length (read_messages base _ _ _) _ (sym c.read_items.ensures ∙ c.in_err-message_count.was) _ c.from_residual-in_err-message_count.ensures.1 in
     m.2 ∙ ap (answer (placed c.args.at)) (sym (contrib_no_messages base _ _ _ _ _ (num_read 4 _ _ c.read_u32.ensures c.in-Ok.is) (omega (arith, c.from.ensures, c.if-from-b.false)) _ _ u.1 _ m.1))
 
 pub returns-in_err-vote_count : goal.returns-in_err-vote_count
+unfolding read_messages read_votes
 returns-in_err-vote_count c =
     let u = answer_ok length (read_user base _ _) _ _ (sym c.read_user.ensures ∙ c.in_ok-user_count.was) in
-    let m = answer_ok length (read_messages base _ _ _) _ _ (sym c.read_messages.ensures ∙ c.in_ok-message_count.was) in
-    let left_read : c.saturating_sub.result ≡ c.args.b.left - length m.0 = c.saturating_sub.ensures ∙ ap (λ (k : ℕ). c.args.b.left - k) m.2 in
-    let v = answer_exit length (read_votes base _ _ _) _ (sym c.read_votes.ensures ∙ c.in_err-vote_count.was) _ c.from_residual-in_err-vote_count.ensures.1 in
+    let m = answer_ok length (read_messages base _ _ _) _ _ (sym c.read_items.ensures ∙ c.in_ok-message_count.was) in
+    let left_read : c.saturating_sub-votes_left.result ≡ c.args.b.left - length m.0 = c.saturating_sub-votes_left.ensures ∙ ap (λ (k : ℕ). c.args.b.left - k) m.2 in
+    let v = answer_exit length (read_votes base _ _ _) _ (sym c.read_items-2.ensures ∙ c.in_err-vote_count.was) _ c.from_residual-in_err-vote_count.ensures.1 in
     v.2
     ∙ ap (answer (placed c.args.at))
     (sym (contrib_no_votes base _ _ _ _ _ (num_read 4 _ _ c.read_u32.ensures c.in-Ok.is) (omega (arith, c.from.ensures, c.if-from-b.false)) _ _ u.1 _ _ m.1 _ left_read _ v.1))
@@ -46,10 +48,11 @@ pub overflow_add-contrib : goal.overflow_add-contrib
 overflow_add-contrib c = let r = read_value 4 _ _ _ _ (num_read 4 _ _ c.read_u32.ensures c.in-Ok.is) in omega (arith, r.0, r.2)
 
 pub returns : goal.returns
+unfolding read_messages read_votes
 returns c =
     let u = answer_ok length (read_user base _ _) _ _ (sym c.read_user.ensures ∙ c.in_ok-user_count.was) in
-    let m = answer_ok length (read_messages base _ _ _) _ _ (sym c.read_messages.ensures ∙ c.in_ok-message_count.was) in
-    let left_read : c.saturating_sub.result ≡ c.args.b.left - length m.0 = c.saturating_sub.ensures ∙ ap (λ (k : ℕ). c.args.b.left - k) m.2 in
-    let v = answer_ok length (read_votes base _ _ _) _ _ (sym c.read_votes.ensures ∙ c.in_ok-vote_count.was) in
+    let m = answer_ok length (read_messages base _ _ _) _ _ (sym c.read_items.ensures ∙ c.in_ok-message_count.was) in
+    let left_read : c.saturating_sub-votes_left.result ≡ c.args.b.left - length m.0 = c.saturating_sub-votes_left.ensures ∙ ap (λ (k : ℕ). c.args.b.left - k) m.2 in
+    let v = answer_ok length (read_votes base _ _ _) _ _ (sym c.read_items-2.ensures ∙ c.in_ok-vote_count.was) in
     contrib_read base _ _ _ _ _ (num_read 4 _ _ c.read_u32.ensures c.in-Ok.is) (omega (arith, c.from.ensures, c.if-from-b.false)) _ _ u.1 _ _ m.1
     (lit< tt) (lit< tt) (λ i. (c.type_inv.s i).fits) _ left_read _ _ v.1 _ _ _ u.2 m.2 v.2

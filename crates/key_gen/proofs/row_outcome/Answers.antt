@@ -1,19 +1,25 @@
-use borrow.Author.Tests.{eq-eqb, ne_eqb}
+use Rattle.std.proofs.Common.{rules}
+use mathlib.Core.Path.{◌≡◌}
+use borrow.Author.Tests.{ne_eqb}
 use Rattle.key_gen.specs.KeyGen.{row_effect}
 use Rattle.key_gen.proofs.row_outcome.Goals as goal
 
-pub returns-then-verdict-eq0 : goal.returns-then-verdict-eq0
+pub returns-in-0 : goal.returns-in-0
 unfolding row_effect
-returns-then-verdict-eq0 c = rw (eq-eqb _ _ c.if-verdict-eq0.true)
+returns-in-0 c = rw c.in-0.is
 
-pub returns-then-verdict-eq1 : goal.returns-then-verdict-eq1
+pub returns-in-1 : goal.returns-in-1
 unfolding row_effect
-returns-then-verdict-eq1 c = rw (ne_eqb _ _ c.if-verdict-eq0.false, eq-eqb _ _ c.if-verdict-eq1.true)
+returns-in-1 c = rw c.in-1.is
 
-pub returns-then-verdict-eq2 : goal.returns-then-verdict-eq2
+pub returns-in-2 : goal.returns-in-2
 unfolding row_effect
-returns-then-verdict-eq2 c = rw (ne_eqb _ _ c.if-verdict-eq0.false, ne_eqb _ _ c.if-verdict-eq1.false, eq-eqb _ _ c.if-verdict-eq2.true)
+returns-in-2 c = rw c.in-2.is
 
-pub returns : goal.returns
+pub returns-in_default : goal.returns-in_default
 unfolding row_effect
-returns c = rw (ne_eqb _ _ c.if-verdict-eq0.false, ne_eqb _ _ c.if-verdict-eq1.false, ne_eqb _ _ c.if-verdict-eq2.false)
+returns-in_default c =
+    let a : c.args.verdict ≡ 0 → ⊥ = search rules in
+    let b : c.args.verdict ≡ 1 → ⊥ = search rules in
+    let d : c.args.verdict ≡ 2 → ⊥ = search rules in
+    rw (ne_eqb _ _ a, ne_eqb _ _ b, ne_eqb _ _ d)

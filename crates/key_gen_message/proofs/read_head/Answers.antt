@@ -40,5 +40,5 @@ returns c =
     let u = answer_ok body_of (read_key_gen_message base _ _) _ _ (sym c.read_body.ensures ∙ c.in_ok-body.was) in
     rw (num_read 8 _ _ c.read_u64.ensures c.in-Ok.is, num_read 4 _ _ c.read_u32.ensures c.in-Ok-read_u32.is, u.1, num_read 8 _ _ c.read_u64-2.ensures c.in-Ok-read_u64.is)
     (ap {B = Result (MessageHead × ℕ) Refusal}
-    (λ (b : Body). Ok (record { era = c.in-Ok.era; id = c.in-Ok-read_u32.id; part = b.part; first = b.first; count = b.count; sig = c.in-Ok-read_u64.sig }, c.in-Ok-read_u64.d))
+    (λ (b : Body). Ok (record { era = c.in-Ok.era; id = c.in-Ok-read_u32.id; kind = b.kind; first = b.first; count = b.count; sig = c.in-Ok-read_u64.sig }, c.in-Ok-read_u64.d))
     u.2)

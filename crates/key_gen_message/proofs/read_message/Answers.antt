@@ -13,7 +13,7 @@ use Rattle.sync_key_gen.specs.declared.Part.{Part}
 use Rattle.sync_key_gen.specs.declared.Ack.{Ack}
 use Rattle.sync_key_gen.specs.SyncKeyGen.{part_held, ack_held, read_part, read_ack}
 use Rattle.key_gen_message.specs.declared.KeyGenMessage.{KeyGenMessage}
-use Rattle.key_gen_message.specs.declared.KeyGenKind.TheVariants as kind
+use Rattle.key_gen_message.specs.declared.KeyGenMessage.TheVariants as kind
 use Rattle.key_gen_message.specs.KeyGenMessage.{message_held, read_key_gen_message}
 use Rattle.key_gen_message.proofs.read_message.Goals as goal
 
@@ -46,11 +46,11 @@ unfolding read_key_gen_message
 returns-in_ok-p-in-0 c =
     let u = answer_ok part_held (read_part base _ _) _ _ (sym c.read_part.ensures ∙ c.in_ok-p-in-0.was) in
     rw (num_read 4 _ _ c.read_u32.ensures c.in-Ok.is, c.in-0.is, u.1)
-    (ap {B = Result (KeyGenMessage × ℕ) Refusal} (λ (p : Part). Ok (record { kind = kind.Part p.commit; handles = p.rows }, c.in_ok-p-in-0.d)) u.2)
+    (ap {B = Result (KeyGenMessage × ℕ) Refusal} (λ (p : Part). Ok (kind.Part p, c.in_ok-p-in-0.d)) u.2)
 
 pub returns-in_ok-a-in-1 : goal.returns-in_ok-a-in-1
 unfolding read_key_gen_message
 returns-in_ok-a-in-1 c =
     let u = answer_ok ack_held (read_ack base _ _) _ _ (sym c.read_ack.ensures ∙ c.in_ok-a-in-1.was) in
     rw (num_read 4 _ _ c.read_u32.ensures c.in-Ok.is, c.in-1.is, u.1)
-    (ap {B = Result (KeyGenMessage × ℕ) Refusal} (λ (a : Ack). Ok (record { kind = kind.Ack a.proposer; handles = a.values }, c.in_ok-a-in-1.d)) u.2)
+    (ap {B = Result (KeyGenMessage × ℕ) Refusal} (λ (a : Ack). Ok (kind.Ack a, c.in_ok-a-in-1.d)) u.2)

@@ -11,23 +11,23 @@ use Rattle.key_gen_state.proofs.sender_place.Goals as goal
 pub returns-in-Some : goal.returns-in-Some
 returns-in-Some c =
     let m = c.args.current in
-    let l : length m.nodes ≡ base.nodes = search rules in
+    let l : length m.nodes.items ≡ base.nodes = search rules in
     (place_there base _ _ _ _ (place_candidate base _ _ _ _ (sym c.in-Some.ensures)), simp length-take (omega arith), search rules)
 
 pub overflow_add-result : goal.overflow_add-result
 overflow_add-result c =
     let m = c.args.current in
-    let l : length m.nodes ≡ base.nodes = search rules in
-    omega (arith, (index_within m.nodes m.count _ _ (sym c.in-Some-node_index.ensures)).0)
+    let l : length m.nodes.items ≡ base.nodes = search rules in
+    omega (arith, (index_within m.nodes.items m.nodes.count _ _ (sym c.in-Some-node_index.ensures)).0)
 
 pub returns-in-Some-node_index : goal.returns-in-Some-node_index
 returns-in-Some-node_index c =
     let m = c.args.current in
-    let l : length m.nodes ≡ base.nodes = search rules in
+    let l : length m.nodes.items ≡ base.nodes = search rules in
     (place_there base _ _ _ _ (place_current base _ _ _ (sym c.in_default.ensures) _ (sym c.in-Some-node_index.ensures)), simp length-take (omega arith), search rules)
 
 pub returns : goal.returns
 returns c =
     let m = c.args.current in
-    let l : length m.nodes ≡ base.nodes = search rules in
+    let l : length m.nodes.items ≡ base.nodes = search rules in
     (place_past base _ _ _ (place_none base _ _ _ (sym c.in_default.ensures) (sym c.in_default-node_index.ensures)), simp length-take (omega arith), search rules)

@@ -32,5 +32,5 @@ pub returns : goal.returns
 unfolding read_key_gen
 returns c =
     let m = answer_ok message_held (read_key_gen_message base _ _) _ _ (sym c.read_message.ensures ∙ c.in_ok-message.was) in
-    rw (c.of_key_gen.ensures, num_read 8 _ _ c.read_u64.ensures c.in-Ok.is, m.1, num_read 8 _ _ c.read_u64-2.ensures c.in-Ok-read_u64.is)
+    rw (num_read 8 _ _ c.read_u64.ensures c.in-Ok.is, m.1, num_read 8 _ _ c.read_u64-2.ensures c.in-Ok-read_u64.is)
     (ap {B = Result (Message × ℕ) Refusal} (λ (x : KeyGenMessage). Ok (key_gen_held c.in-Ok.era x c.in-Ok-read_u64.sig, c.in-Ok-read_u64.e)) m.2)

@@ -21,4 +21,4 @@ pub returns : goal.returns
 unfolding read_vote
 returns c =
     let v = answer_ok signed_held (read_signed_vote base _ _) _ _ (sym c.read_signed_vote.ensures ∙ c.in_ok-vote.was) in
-    rw (c.of_vote.ensures, v.1) (ap {B = Result (Message × ℕ) Refusal} (λ (x : SignedVote). Ok (vote_held x, c.in_ok-vote.c)) v.2)
+    rw v.1 (ap {B = Result (Message × ℕ) Refusal} (λ (x : SignedVote). Ok (vote_held x, c.in_ok-vote.c)) v.2)

@@ -12,9 +12,11 @@ nothing_decided-requires c = fits_epoch _ _ c.in-Ok.is c.requires
 pub returns-in-Err : goal.returns-in-Err
 returns-in-Err c =
     let a = c.args in
-    c.denied.ensures ∙ sym (ap (λ (o : Result ℕ Refusal). quiet_told o a.w.committed a.era a.pub_keys a.params) c.in-Err.is)
+    let v = a.counter.now in
+    c.denied.ensures ∙ sym (ap (λ (o : Result ℕ Refusal). quiet_told o a.w.now.committed v.era v.pub_keys a.params) c.in-Err.is)
 
 pub returns-in-Ok : goal.returns-in-Ok
 returns-in-Ok c =
     let a = c.args in
-    c.nothing_decided.ensures ∙ sym (ap (λ (o : Result ℕ Refusal). quiet_told o a.w.committed a.era a.pub_keys a.params) c.in-Ok.is)
+    let v = a.counter.now in
+    c.nothing_decided.ensures ∙ sym (ap (λ (o : Result ℕ Refusal). quiet_told o a.w.now.committed v.era v.pub_keys a.params) c.in-Ok.is)

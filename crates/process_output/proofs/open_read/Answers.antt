@@ -7,7 +7,7 @@ pub returns-then-is_err : goal.returns-then-is_err
 returns-then-is_err c bytes cs d places dues q k =
     let o = c.epoch_of-opening in
     let i = c.args.index in
-    read_as o.result i (record { count = 0; contribs = i.contribs }) _ cs d (λ e. refl) (λ e. absurd (false_true (sym e ∙ sym c.is_err.ensures.value ∙ c.if-is_err.true))) (o.ensures bytes cs places dues q) k
+    read_as o.result i (record { contribs = record { count = 0; items = i.contribs.items } }) _ cs d (λ e. refl) (λ e. absurd (false_true (sym e ∙ sym c.is_err.ensures.value ∙ c.if-is_err.true))) (o.ensures bytes cs places dues q) k
 
 pub returns-else-is_err : goal.returns-else-is_err
 returns-else-is_err c bytes cs d places dues q k =

@@ -1,4 +1,4 @@
-use Prim.Native.Nat.{◌-◌, ◌≤◌}
+use Prim.Native.Nat.{◌-◌}
 use mathlib.Core.Path.{◌≡◌}
 use mathlib.Core.List.{List}
 use lib.ListN.{length}
@@ -10,7 +10,7 @@ use Rattle.pub_key_map.specs.declared.Node.{Node}
 use Rattle.pub_key_map.specs.PubKeyMap.{no_node, read_node, read_map, following}
 use Rattle.pub_key_map.proofs.read_map.Given as goal
 
-abbrev pub invariant-loop-i : goal.invariant-loop-i
-invariant-loop-i l =
-    (done : List Node) × (l.i ≡ length done) × (l.count ≤ base.nodes) × (l.nodes ≡ padded base.nodes no_node done)
-    × (read_map fixed base l.s l.at ≡ after done (items (read_node fixed l.s) following (l.count - l.i) l.low l.c))
+abbrev pub invariant-loop-node : goal.invariant-loop-node
+invariant-loop-node l =
+    (done : List Node) × (l.node-index ≡ length done) × (l.node-items ≡ padded l.count no_node done)
+    × (read_map fixed base l.s l.at ≡ after done (items (read_node fixed l.s) following (l.count - l.node-index) l.low l.c))

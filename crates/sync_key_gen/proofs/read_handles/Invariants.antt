@@ -9,6 +9,6 @@ use Rattle.bincode.specs.Items.{after, many}
 use Rattle.sync_key_gen.specs.SyncKeyGen.{read_handles}
 use Rattle.sync_key_gen.proofs.read_handles.Given as goal
 
-abbrev pub invariant-loop-i : goal.invariant-loop-i
-invariant-loop-i l =
-    (done : List ℕ) × (l.i ≡ length done) × (l.values ≡ padded base.rows 0 done) × (read_handles base l.s l.at ≡ after done (many (read_num 8 l.s) (l.count - l.i) l.c))
+abbrev pub invariant-loop-value : goal.invariant-loop-value
+invariant-loop-value l =
+    (done : List ℕ) × (l.value-index ≡ length done) × (l.value-items ≡ padded l.count 0 done) × (read_handles base l.s l.at ≡ after done (many (read_num 8 l.s) (l.count - l.value-index) l.c))

@@ -1,7 +1,7 @@
 use Prim.Native.Nat.{◌+◌}
 use mathlib.Core.Path.{sym, ◌∙◌}
 use native.Mathlib.Numerals.{add-one}
-use lib.ListN.{length, take}
+use lib.ListN.{length}
 use lib.Seq.{drop-cons}
 use borrow.Author.Tests.{leb-true, leb-false}
 use Rattle.bincode.specs.Numbers.{bytes_of}
@@ -16,11 +16,11 @@ loop-x-init c =
     let size = c.handles_size in
     let h = leb-true (a.at + size.result) (length a.buf.now) (sym c.room.ensures ∙ c.if-room.true) in
     let w = c.write_u64-c.ensures in
-    rw (w.0, w.1) (put_handles a.h c.len-n.result c.len-n.ensures.0 a.buf.now a.at (rw size.ensures.0 at h))
+    rw (c.as_slice-x-items.ensures, w.0, w.1) (put_handles a.h c.len.result c.len.ensures.0 a.buf.now a.at (rw size.ensures.0 at h))
 
 pub loop-x-preserved : goal.loop-x-preserved
 loop-x-preserved c =
-    let xs = take c.len-n.result c.args.h.values in
+    let xs = c.as_slice-x-items.result.now in
     let w = c.write_u64-c-in-loop-x.ensures in
     rw (w.0, w.1) (put_more (bytes_of 8) xs _ _ _ _ _ _ (rw add-one (drop-cons xs c.loop-x.x-index 0 c.loop-x-test.true)) c.loop-x.invariant)
 

@@ -1,30 +1,22 @@
-use mathlib.Core.Path.{◌≡◌, sym, ◌∙◌}
+use Rattle.std.proofs.Common.{rules, tests}
 use native.Mathlib.Omega.{arith}
-use Rattle.lists.proofs.ListLaws.{rest_more}
-use Rattle.board.specs.Board.{rows_of}
-use Rattle.board.proofs.BoardTurns.{rank_more, rank_stop, rank_end}
+use mathlib.Core.Path.{◌≡◌, ◌∙◌}
+use lib.ListN.{length}
+use Rattle.std.specs.Option.{unwrap_or}
+use Rattle.std.specs.Prelude.{position}
+use Rattle.std.proofs.lemmas.Iterator.{YieldsList-from_slice}
+use Rattle.std.proofs.lemmas.Iterator.Search.{position_from_yields_List}
+use Rattle.winner.specs.Board.{is_before}
+use Rattle.board.specs.Turns.{rank}
+use Rattle.board.specs.Board.{rows_of, count_in, voter_in}
+use Rattle.board.proofs.BoardTurns.{rank_le, rank_found}
 use Rattle.board.proofs.Board.place_of.Goals as goal
-
-pub loop-i-init : goal.loop-i-init
-loop-i-init c = omega arith
-
-pub returns-then-is_before : goal.returns-then-is_before
-returns-then-is_before c =
-    let a = c.args in
-    let i = c.loop-i.i in
-    let more = rest_more a.self.rows a.self.count i _ (omega (arith, c.len-n.ensures.0, c.loop-i-test.true)) in
-    (sym (c.loop-i.invariant ∙ rank_stop a.row (rows_of a.self) i _ more (sym c.is_before.ensures ∙ c.if-is_before.true)), omega (arith, c.len-n.ensures.0, c.loop-i-test.true))
-
-pub loop-i-preserved : goal.loop-i-preserved
-loop-i-preserved c =
-    let a = c.args in
-    let i = c.loop-i.i in
-    let more = rest_more a.self.rows a.self.count i _ (omega (arith, c.len-n.ensures.0, c.loop-i-test.true)) in
-    c.loop-i.invariant ∙ rank_more a.row (rows_of a.self) i _ more (sym c.is_before.ensures ∙ c.if-is_before.false)
 
 pub returns : goal.returns
 returns c =
-    let a = c.args in
-    let i = c.loop-i.i in
-    let e : i ≡ c.len-n.result = omega arith in
-    (sym (c.loop-i.invariant ∙ rank_end a.row (rows_of a.self) i (omega (arith, c.len-n.ensures.0, c.loop-i-test.false)) ∙ e), omega (arith, c.len-n.ensures.0))
+    let row = c.args.row in
+    let qs = rows_of c.args.self in
+    let p : c.position-place.result ≡ position (is_before count_in voter_in row) qs
+    = position_from_yields_List (is_before count_in voter_in row) _ _ _ c.position-place.ensures.ran (YieldsList-from_slice qs cc) (λ x b q k. search (rules, tests)) in
+    let e : c.unwrap_or.result ≡ rank row qs = c.unwrap_or.ensures ∙ (λ i. unwrap_or (p i) (length (c.as_slice-rows.ensures i))) ∙ rank_found row qs in
+    (e, omega (arith, e, rank_le row qs))

@@ -9,6 +9,7 @@ use Rattle.commit.specs.Tally.{entries_of}
 use Rattle.commit.specs.Put.{put_in}
 use Rattle.commit.proofs.voting.put_votes.Given as goal
 
-abbrev pub invariant-loop-i : goal.invariant-loop-i
-invariant-loop-i l =
-    foldl (put_in base l.s) (counter_of l.counter) (entries_of l.t) ≡ foldl (put_in base l.s) (after base (counter_of l.counter) (votes_of l.votes) l.taken) (drop l.i (entries_of l.t))
+abbrev pub invariant-loop-e : goal.invariant-loop-e
+invariant-loop-e l =
+    let a = l.fn in
+    foldl (put_in base a.s) (counter_of a.counter) (entries_of a.t) ≡ foldl (put_in base a.s) (after base (counter_of a.counter) (votes_of l.votes) l.taken) (drop l.e-index l.e-items)

@@ -1,17 +1,11 @@
-use mathlib.Core.Path.{◌≡◌}
-use lib.ListN.{length}
-use Rattle.lists.proofs.ListLaws.{append_held, append_full}
-use Rattle.bincode.specs.Sizes.{base}
+use native.Mathlib.Omega.{arith}
+use mathlib.Core.Path.{◌∙◌}
+use lib.ListN.{length-take}
+use Rattle.array_list.proofs.PushLaws.{pushed_cut}
+use Rattle.array_list.specs.ArrayList.{items_in}
 use Rattle.due.proofs.DueList.append.Goals as goal
 
-pub returns-then-n-lt-LIMIT : goal.returns-then-n-lt-LIMIT
-returns-then-n-lt-LIMIT c =
-    let places : length c.args.self.items ≡ base.due = c.well_formed.0.1.1.1.0.1.0.1 in
-    let l = c.args.self in
-    append_held l.items l.count base.due c.len-n.result c.args.item (places) c.len-n.ensures.0 c.if-n-lt-LIMIT.true
-
-pub returns-else-n-lt-LIMIT : goal.returns-else-n-lt-LIMIT
-returns-else-n-lt-LIMIT c =
-    let places : length c.args.self.items ≡ base.due = c.well_formed.0.1.1.1.0.1.0.1 in
-    let l = c.args.self in
-    append_full l.items l.count base.due c.len-n.result c.args.item (places) c.len-n.ensures.0 c.if-n-lt-LIMIT.false
+pub returns : goal.returns
+returns c =
+    let l = c.args.self.items in
+    c.push.ensures.0 ∙ pushed_cut 1025 c.args.item (items_in l) (omega (arith, length-take l.count l.items))

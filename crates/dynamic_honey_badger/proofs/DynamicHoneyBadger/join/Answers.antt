@@ -1,25 +1,40 @@
+use mathlib.Core.List.{List, [], ◌∷◌}
 use mathlib.Core.Path.{◌≡◌, sym, ap, ◌∙◌}
-use lib.ListN.{length}
 use Rattle.bincode.specs.Sizes.{base}
 use Rattle.pub_key_map.specs.PubKeyMap.{nodes_of}
-use Rattle.key_gen_state.specs.KeyGenState as running
-use Rattle.filled.proofs.DueLaws.{due_none, due_same}
-use Rattle.dynamic_honey_badger.specs.State.{Joined, JoinAnswer, numbered, state_of, with_key_gen, part_due, key_gen_for}
-use Rattle.dynamic_honey_badger.proofs.StateLaws.{key_gen_begun, join_map, join_other}
+use Rattle.due.specs.declared.DueItem.{DueItem}
+use Rattle.due.specs.declared.DueKind.TheVariants.{Part}
+use Rattle.filled.proofs.DueLaws.{due_none, due_one, due_same}
+use Rattle.dynamic_honey_badger.specs.State.{Joined, JoinAnswer, numbered, state_of, part_due}
+use Rattle.dynamic_honey_badger.proofs.StateLaws.{key_gen_begun, join_map, join_other, no_map}
 use Rattle.dynamic_honey_badger.proofs.DynamicHoneyBadger.join.Goals as goal
 
-pub returns-then-is_map_in_progress : goal.returns-then-is_map_in_progress
-returns-then-is_map_in_progress c =
+pub returns-in_default : goal.returns-in_default
+returns-in_default c =
     let a = c.args in
-    let m = a.state.change.map in
+    let v = a.self.vote_counter in
+    let j = join_other base v.our_id v.era (state_of a.self) a.change (no_map a.change (sym c.map_in_progress.ensures ∙ c.in_default.is)) in
+    (ap numbered (sym j), due_same a.kinds.now _ a.indices.now _ a.eras.now _ _ _ (ap (λ (x : Joined). x.due) (sym j)) (due_none a.kinds.now a.indices.now a.eras.now))
+
+pub returns-then-not-is_member : goal.returns-then-not-is_member
+returns-then-not-is_member c =
+    let a = c.args in
+    let v = a.self.vote_counter in
+    let m = c.in-Some.map in
     let s = state_of a.self in
-    let j = join_map base a.our_id a.era s a.state (sym c.is_map_in_progress.ensures ∙ c.if-is_map_in_progress.true) in
-    let e : ◌≡◌ {A = JoinAnswer} (record { state = with_key_gen s (running.state_of c.new-self.result); due = c.due_part.result }) (record { state = key_gen_for base (nodes_of m) s; due = length (part_due (nodes_of m) a.our_id a.era) }) = λ i. record { state = key_gen_begun a.self m _ c.new-self.result c.new.ensures c.new-self.ensures i; due = c.due_part.ensures.0 i } in
-    (e ∙ ap numbered (sym j), due_same a.kinds.now _ a.indices.now _ a.eras.now _ _ _ (ap (λ (x : Joined). x.due) (sym j)) c.due_part.ensures.1)
+    let j = join_map base v.our_id v.era s a.change m (sym c.map_in_progress.ensures ∙ c.in-Some.is) in
+    let d : ◌≡◌ {A = List DueItem} [] (part_due (nodes_of m) v.our_id v.era) = rw (sym c.is_member.ensures ∙ c.if-not-is_member.true) in
+    let e = ap {B = JoinAnswer} (λ (x : Joined). numbered x) (λ i. record { state = key_gen_begun a.self m _ c.new-2.result c.new.ensures c.new-2.ensures i; due = d i }) in
+    (e ∙ ap numbered (sym j), due_same a.kinds.now _ a.indices.now _ a.eras.now _ _ _ (d ∙ ap (λ (x : Joined). x.due) (sym j)) (due_none a.kinds.now a.indices.now a.eras.now))
 
 pub returns : goal.returns
 returns c =
     let a = c.args in
+    let v = a.self.vote_counter in
+    let m = c.in-Some.map in
     let s = state_of a.self in
-    let j = join_other base a.our_id a.era s a.state (sym c.is_map_in_progress.ensures ∙ c.if-is_map_in_progress.false) in
-    (ap numbered (sym j), due_same a.kinds.now _ a.indices.now _ a.eras.now _ _ _ (ap (λ (x : Joined). x.due) (sym j)) (due_none a.kinds.now a.indices.now a.eras.now))
+    let j = join_map base v.our_id v.era s a.change m (sym c.map_in_progress.ensures ∙ c.in-Some.is) in
+    let part : DueItem = record { kind = Part; era = v.era } in
+    let d : ◌≡◌ {A = List DueItem} (part ∷ []) (part_due (nodes_of m) v.our_id v.era) = rw (sym c.is_member.ensures ∙ c.if-not-is_member.false) in
+    let e = ap {B = JoinAnswer} (λ (x : Joined). numbered x) (λ i. record { state = key_gen_begun a.self m _ c.new-2.result c.new.ensures c.new-2.ensures i; due = d i }) in
+    (e ∙ ap numbered (sym j), due_same a.kinds.now _ a.indices.now _ a.eras.now _ _ _ (d ∙ ap (λ (x : Joined). x.due) (sym j)) (due_one a.kinds.now _ a.indices.now _ a.eras.now _ part c.store_due.ensures))

@@ -6,5 +6,5 @@ use Rattle.dynamic_honey_badger.proofs.DynamicHoneyBadger.vote_to_remove.Goals a
 pub returns : goal.returns
 returns c =
     let d = c.args.self in
-    let r = c.cast-r in
-    (r.ensures.0 (state_of d) refl ∙ c.wanted_without.ensures (state_of d) refl refl, vote_kept d r.result r.ensures.1)
+    let r = c.cast-outcome in
+    (r.ensures.0 (state_of d) refl ∙ c.wanted_without-wanted.ensures (state_of d) refl refl, vote_kept d _ _ r.ensures.1)

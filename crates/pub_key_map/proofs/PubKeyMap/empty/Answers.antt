@@ -4,4 +4,4 @@ use Rattle.pub_key_map.proofs.PubKeyMap.empty.Goals as goal
 
 pub returns : goal.returns
 unfolding padded
-returns c = refl
+returns c = rw c.empty.ensures refl

@@ -1,11 +1,10 @@
-use mathlib.Core.Path.{sym, ◌∙◌}
 use Rattle.recipe.specs.Places.{share_for}
 use Rattle.recipe.proofs.Share.of_proposal.Goals as goal
 
-pub returns-then-not-is_complete : goal.returns-then-not-is_complete
+pub returns-in-Some : goal.returns-in-Some
 unfolding share_for
-returns-then-not-is_complete c = rw (sym c.is_complete.ensures ∙ c.if-not-is_complete.true) c.empty.ensures
+returns-in-Some c = rw (c.in-Some.is, ← c.if-is_complete.ensures 0, c.first.ensures)
 
-pub returns : goal.returns
+pub returns-in_default : goal.returns-in_default
 unfolding share_for
-returns c = rw (sym c.is_complete.ensures ∙ c.if-not-is_complete.false, c.first.ensures)
+returns-in_default c = rw (c.in-Some.is, ← c.if-is_complete.ensures 0)

@@ -1,33 +1,13 @@
-use mathlib.Core.Path.{refl, sym, ap, ◌∙◌}
-use mathlib.Core.List.{List}
-use lib.ListN.{take}
-use Rattle.lists.specs.Lists.{lookup}
-use Rattle.lists.proofs.SortedLaws.{lookup_hit, lookup_miss, lookup_end}
+use mathlib.Core.Path.{ap, ◌∙◌}
+use Prim.Native.Nat.{ℕ}
+use Rattle.lists.specs.Lists.{map_found, option_as_found}
 use Rattle.votes.specs.declared.SignedVote.{SignedVote}
-use Rattle.signed_votes.specs.SignedVotes.{voter_in}
-use Rattle.signed_votes.proofs.VotesLaws.{held_num, next_one, live}
+use Rattle.signed_votes.proofs.VotesLaws.{held_num}
 use Rattle.signed_votes.proofs.SignedVotes.num_of.Goals as goal
 
-pub loop-x-init : goal.loop-x-init
-loop-x-init c = refl
-
-pub returns-then-x-voter : goal.returns-then-x-voter
-returns-then-x-voter c =
-    let t = c.args.self in
-    let k = c.args.voter in
-    let xs = take c.len.result t.votes in
-    let hit = c.loop-x.invariant ∙ lookup_hit voter_in k xs c.loop-x.x-index _ (next_one xs c.loop-x.x-index _ c.loop-x-test.true) c.if-x-voter.true in
-    sym (held_num t k _ (ap (λ (ys : List SignedVote). lookup voter_in ys k) (sym (live t c.len.result c.len.ensures.0)) ∙ hit))
-
-pub loop-x-preserved : goal.loop-x-preserved
-loop-x-preserved c =
-    let xs = take c.len.result c.args.self.votes in
-    c.loop-x.invariant ∙ lookup_miss voter_in c.args.voter xs c.loop-x.x-index _ (next_one xs c.loop-x.x-index _ c.loop-x-test.true) c.if-x-voter.false
+pub returns-in_err-x : goal.returns-in_err-x
+returns-in_err-x c =
+    ap (option_as_found (λ (x : ℕ). x)) c.from_residual.ensures ∙ ap (map_found (λ (x : SignedVote). x.vote.num)) c.in_err-x.ensures ∙ held_num c.args.self c.args.voter
 
 pub returns : goal.returns
-returns c =
-    let t = c.args.self in
-    let k = c.args.voter in
-    let xs = take c.len.result t.votes in
-    let none = c.loop-x.invariant ∙ lookup_end voter_in k xs c.loop-x.x-index c.loop-x-test.false in
-    sym (held_num t k _ (ap (λ (ys : List SignedVote). lookup voter_in ys k) (sym (live t c.len.result c.len.ensures.0)) ∙ none))
+returns c = ap (map_found (λ (x : SignedVote). x.vote.num)) c.in_ok-x.ensures ∙ held_num c.args.self c.args.voter

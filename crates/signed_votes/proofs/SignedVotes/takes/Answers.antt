@@ -8,18 +8,17 @@ use Rattle.lists.proofs.SortedLaws.{map_has_key}
 use Rattle.bincode.specs.Sizes.{base}
 use Rattle.votes.specs.Votes.{signed_of}
 use Rattle.signed_votes.specs.SignedVotes.{held, voter_of}
-use Rattle.signed_votes.proofs.VotesLaws.{place_taken, place_free}
 use Rattle.signed_votes.proofs.SignedVotes.takes.Goals as goal
 
-pub returns-in-Ok : goal.returns-in-Ok
+pub returns-then-has : goal.returns-then-has
 unfolding takes_place
-returns-in-Ok c =
+returns-then-has c =
     let a = c.args in
-    sym (cond_yes true _ (sym (map_has_key signed_of voter_of a.voter (held a.self)) ∙ (place_taken _ _ _ (sym c.in-Ok.is ∙ c.place.ensures)).0))
+    c.if-has.true ∙ sym (cond_yes true _ (sym (map_has_key signed_of voter_of a.voter (held a.self)) ∙ sym c.has.ensures ∙ c.if-has.true))
 
-pub returns-in-Err : goal.returns-in-Err
+pub returns-else-has : goal.returns-else-has
 unfolding takes_place
-returns-in-Err c =
+returns-else-has c =
     let a = c.args in
     ap (λ (n : ℕ). ltb n base.nodes) c.len.ensures.0
-    ∙ sym (cond_no true _ (sym (map_has_key signed_of voter_of a.voter (held a.self)) ∙ (place_free _ _ _ (sym c.in-Err.is ∙ c.place.ensures)).0))
+    ∙ sym (cond_no true _ (sym (map_has_key signed_of voter_of a.voter (held a.self)) ∙ sym c.has.ensures ∙ c.if-has.false))

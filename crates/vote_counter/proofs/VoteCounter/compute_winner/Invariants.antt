@@ -4,17 +4,18 @@ use lib.ListN.{take, drop}
 use mathlib.Core.List.{List, map}
 use Rattle.std.specs.Prelude.{None}
 use Rattle.change.specs.Change.{ChangeOf, change_of, same_change}
+use Rattle.votes.specs.declared.SignedVote.{SignedVote}
+use Rattle.votes.specs.Votes.{signed_of}
 use Rattle.winner.specs.Winner.{support, place_after, winner_place}
-use Rattle.signed_votes.specs.SignedVotes.{votes_of}
-use Rattle.signed_votes.specs.declared.SignedVotes.{SignedVotes}
 use Rattle.vote_counter.proofs.VoteCounter.compute_winner.Given as goal
 
 -- what the voters have chosen
-abbrev pub choices : SignedVotes → List ChangeOf
-choices x = map (λ v. v.vote.change) (votes_of x)
+abbrev pub choices : List SignedVote → List ChangeOf
+choices xs = map (λ v. v.vote.change) (map signed_of xs)
 
-abbrev pub invariant-loop-j : goal.invariant-loop-j
-invariant-loop-j l = (l.count ≡ support same_change (change_of l.change) (take l.j (choices l.committed))) × (l.count ≤ l.f) × (l.count ≤ l.j) × (l.won ≡ l.initial.won)
+abbrev pub invariant-loop-other : goal.invariant-loop-other
+invariant-loop-other l =
+    (l.count ≡ support same_change (change_of l.change) (take l.other-index (choices l.committed))) × (l.count ≤ l.f) × (l.count ≤ l.other-index) × (l.won ≡ l.initial.won)
 
 abbrev pub invariant-voters : goal.invariant-voters
 invariant-voters l =

@@ -1,28 +1,30 @@
-use mathlib.Core.Path.{refl, ap, ◌∙◌}
+use Prim.Native.Nat.{◌≤◌}
+use mathlib.Core.Path.{ap, ◌∙◌}
+use mathlib.Core.List.{map}
 use native.Mathlib.Omega.{arith}
-use lib.ListN.{length, length-map, length-take}
-use Rattle.filled.proofs.FillLaws.{fill_length, fill_start, fill_store, fill_end}
+use lib.ListN.{length, take, length-take, length-map}
+use Rattle.bincode.specs.Sizes.{base}
 use Rattle.votes.specs.Votes.{signed_of}
-use Rattle.signed_votes.specs.SignedVotes.{held}
-use Rattle.commit.specs.declared.tally.Tally.{Tally}
-use Rattle.commit.proofs.TurnLaws.{kept_of, kept_filled}
+use Rattle.signed_votes.specs.SignedVotes.{held, votes_of}
+use Rattle.commit.specs.Tally.{entries_of, kept_entry}
+use Rattle.commit.proofs.TurnLaws.{blank, kept_of, kept_next, kept_done}
 use Rattle.commit.proofs.tally.Tally.of.Goals as goal
 
-pub loop-i-init : goal.loop-i-init
-loop-i-init c = (ap (λ (t : Tally). length t.entries) c.empty-t.ensures, fill_start kept_of c.args.votes.votes c.args.votes.count _)
+pub loop-x-init : goal.loop-x-init
+loop-x-init c = ap entries_of c.empty-t.ensures
 
-pub loop-i-preserved : goal.loop-i-preserved
-loop-i-preserved c =
-    let a = c.args.votes in
-    let l = c.loop-i in
-    let v = l.invariant in
-    let n = c.len-n.ensures.0 ∙ length-map (held a) signed_of in
-    (v.0, fill_store kept_of a.votes a.count _ l.i l.t.entries _ v.1 (omega (arith, n)) _ refl (omega (arith, fill_length kept_of a.votes a.count _ l.i l.t.entries v.1)) _ refl)
+pub loop-x-preserved : goal.loop-x-preserved
+loop-x-preserved c =
+    let vs = c.args.votes.votes in
+    let l = c.loop-x in
+    let xs = c.as_slice-x-items.result.now in
+    let k : length xs ≤ base.nodes = omega (arith, ap length c.as_slice-x-items.ensures, length-take vs.count vs.items) in
+    c.push.ensures.0 ∙ kept_next base.nodes l.x-index xs blank _ l.invariant c.loop-x-test.true (omega (arith, k, c.loop-x-test.true))
 
 pub returns : goal.returns
 returns c =
-    let a = c.args.votes in
-    let l = c.loop-i in
-    let v = l.invariant in
-    let n = c.len-n.ensures.0 ∙ length-map (held a) signed_of in
-    (kept_filled a _ l.t.entries _ n (omega (arith, v.0)) (fill_end kept_of a.votes a.count _ l.i l.t.entries v.1 (omega (arith, n))), simp length-take (omega arith))
+    let vs = c.args.votes.votes in
+    let l = c.loop-x in
+    let e = c.as_slice-x-items.ensures in
+    let d = kept_done l.x-index c.args.votes (entries_of l.t) (l.invariant ∙ ap (λ ys. map kept_of (take l.x-index ys)) e) (omega (arith, ap length e, c.loop-x-test.false)) in
+    (d, omega (arith, ap length d, length-map (votes_of c.args.votes) kept_entry, length-map (held c.args.votes) signed_of, length-take vs.count vs.items))

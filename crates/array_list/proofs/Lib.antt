@@ -1,0 +1,3 @@
+pub mod HasLaws
+pub mod PushLaws
+pub mod SearchLaws

@@ -1,0 +1,29 @@
+use native.Mathlib.Omega.{arith}
+use mathlib.Core.Path.{refl, sym, ap, ◌∙◌}
+use mathlib.Core.List.{[]}
+use Prim.Native.Nat.{ℕ}
+use borrow.Author.Tests.{eq-eqb, ne_eqb}
+use Rattle.lists.specs.Lists.{lookup}
+use Rattle.pub_key_map.specs.PubKeyMap.{nodes_of}
+use Rattle.network_info.proofs.IndexLaws.{index_found}
+use Rattle.key_gen.specs.KeyGen.{by_proposer, key_gen_of, handle_part, part_of_index}
+use Rattle.key_gen.proofs.KeyGen.handle_part_counted.Goals as goal
+
+pub returns-in-None : goal.returns-in-None
+unfolding handle_part
+returns-in-None c = λ p e n. rw (sym c.in-None.ensures) refl
+
+pub part_of_index-requires : goal.part_of_index-requires
+part_of_index-requires c = omega (arith, (index_found (nodes_of c.args.self.now.pub_keys) 0 c.in-Some.i c.args.signer (sym c.in-Some.ensures)).1, c.len.ensures)
+
+pub returns-in-Some : goal.returns-in-Some
+unfolding handle_part part_of_index
+returns-in-Some c =
+    let g = key_gen_of c.args.self.now in
+    λ p e n.
+    c.part_of_index.ensures ∙ ap (λ (x : ℕ). part_of_index g c.in-Some.i (record { commit = x; rows = [] }) c.args.verdict (lookup by_proposer g.parts c.in-Some.i)) (sym e)
+    ∙ sym (rw (sym c.in-Some.ensures, eq-eqb _ _ (n ∙ c.if-complete.true ∙ c.len.ensures.0)) refl)
+
+pub returns-in-Some-2 : goal.returns-in-Some-2
+unfolding handle_part
+returns-in-Some-2 c = λ p e n. rw (sym c.in-Some.ensures, ne_eqb _ _ (λ q. c.if-complete.false (sym n ∙ q ∙ sym c.len.ensures.0))) refl

@@ -1,7 +1,0 @@
-use Rattle.key_gen.proofs.KeyGen.new.Goals as goal
-
-pub empty-requires : goal.empty-requires
-empty-requires c = tt
-
-pub returns : goal.returns
-returns c = rw c.empty.ensures
