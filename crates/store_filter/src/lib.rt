@@ -41,8 +41,8 @@ impl MessagePlace {
 }
 
 // The commitment of a part, the proposer's index of an ack.
-fn number_in(m: KeyGenMessage) -> u64
-    ensures { result ≡ number_in m }
+fn number_in(m: &KeyGenMessage) -> u64
+    ensures { result ≡ number_in m.now }
 {
     match m {
         KeyGenMessage::Part(p) => p.commit,
@@ -51,10 +51,10 @@ fn number_in(m: KeyGenMessage) -> u64
 }
 
 // Whether a stored message is the one that stands at a place: its small numbers are looked at before it is read.
-fn is_at(x: SignedKeyGenMsg, p: &MessagePlace, s: &[u8]) -> bool
-    ensures { result ≡ stands_at s.now (signed_of x) p.now }
+fn is_at(x: &SignedKeyGenMsg, p: &MessagePlace, s: &[u8]) -> bool
+    ensures { result ≡ stands_at s.now (signed_of x.now) p.now }
 {
-    if x.id != p.id || number_in(x.message) != p.first {
+    if x.id != p.id || number_in(&x.message) != p.first {
         return false;
     }
     match key_gen_message::read_signed(s, p.at) {
@@ -64,8 +64,8 @@ fn is_at(x: SignedKeyGenMsg, p: &MessagePlace, s: &[u8]) -> bool
 }
 
 // Whether a stored message is one of those that are listed.
-fn is_committed(x: SignedKeyGenMsg, s: &[u8], places: &[MessagePlace]) -> bool
-    ensures { result ≡ list_any (stands_at s.now (signed_of x)) places.now }
+fn is_committed(x: &SignedKeyGenMsg, s: &[u8], places: &[MessagePlace]) -> bool
+    ensures { result ≡ list_any (stands_at s.now (signed_of x.now)) places.now }
 {
     places.iter().any(|p| is_at(x, p, s))
 }
@@ -112,7 +112,7 @@ fn list_batch(
 fn keep_others(mut store: MessageStore, s: &[u8], places: &[MessagePlace]) -> MessageStore
     ensures { (es : List Entry) → Listed s.now es places.now → store_of result ≡ without_entries es (store_of store) }
 {
-    store.messages.retain(|x| !is_committed(*x, s, places));
+    store.messages.retain(|x| !is_committed(x, s, places));
     store
 }
 
