@@ -57,7 +57,7 @@ impl<T: Copy, const N: usize> ArrayList<T, N> {
 
     // One value more, behind those there are, and whether it has a place.
     pub fn push(&mut self, x: T) -> bool
-        ensures { (items_in self.new ≡ pushed N x (items_in self.old)) × (result ≡ ltb (length (items_in self.old)) N) }
+        ensures { (items_in self.new ≡ pushed N x (items_in self.old)) × (result ≡ ltb (length (items_in self.old)) N) × (length (items_in self.old) ≤ N) }
     {
         let n = self.len();
         if n < N {
@@ -66,6 +66,13 @@ impl<T: Copy, const N: usize> ArrayList<T, N> {
             return true;
         }
         false
+    }
+
+    // No values any more.
+    pub fn clear(&mut self)
+        ensures { items_in self.new ≡ [] }
+    {
+        self.count = 0;
     }
 
     // A value put at a place, those from there on moved up; past the end is no place, and a full list has none.

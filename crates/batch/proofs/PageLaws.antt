@@ -27,20 +27,24 @@ module _ (z : Sizes) (l : List ℕ) (b : BatchOf) (set : ℕ) where
     nothing_changed e = (rw (le-ltb (length l) z.plan long, e), rw (le-ltb (length l) z.plan long, e))
 
     module _ (next : b.epoch ≡ 18446744073709551615 → ⊥) where
-      -- the plan: the era behind the batch's epoch; change, map and parameters of the report; the key set that the host lends. "plan bytes past those filled are unchanged"
+      -- the plan: the era behind the batch's epoch; change, map and parameters of the report; the key set that the host lends.
+      -- "plan bytes past those filled are unchanged"
       abbrev Planned : ChangeStateOf → Type 0
       Planned change =
           (plan_left z l b set ≡ sets l 0 (plan_bytes fixed (record { era = b.epoch + 1; change = change; keys = b.keys; key_set = set; params = b.params })))
-          × (plan_answered z l b set ≡ done (found (length (plan_bytes fixed (record { era = b.epoch + 1; change = change; keys = b.keys; key_set = set; params = b.params })))))
+          × (plan_answered z l b set
+          ≡ done (found (length (plan_bytes fixed (record { era = b.epoch + 1; change = change; keys = b.keys; key_set = set; params = b.params })))))
 
       -- a change in progress gives one
       pub progress_planned : (c : ChangeOf) → b.change ≡ in_progress c → Planned (in_progress c)
       unfolding plan_left plan_answered plan_written plan_said
       progress_planned c e =
-          (rw (le-ltb (length l) z.plan long, e, ne_eqb b.epoch 18446744073709551615 next), rw (le-ltb (length l) z.plan long, e, ne_eqb b.epoch 18446744073709551615 next))
+          let last = ne_eqb b.epoch 18446744073709551615 next in
+          (rw (le-ltb (length l) z.plan long, e, last), rw (le-ltb (length l) z.plan long, e, last))
 
       -- so does a complete one
       pub complete_planned : (c : ChangeOf) → b.change ≡ complete c → Planned (complete c)
       unfolding plan_left plan_answered plan_written plan_said
       complete_planned c e =
-          (rw (le-ltb (length l) z.plan long, e, ne_eqb b.epoch 18446744073709551615 next), rw (le-ltb (length l) z.plan long, e, ne_eqb b.epoch 18446744073709551615 next))
+          let last = ne_eqb b.epoch 18446744073709551615 next in
+          (rw (le-ltb (length l) z.plan long, e, last), rw (le-ltb (length l) z.plan long, e, last))

@@ -26,6 +26,7 @@ pub struct Batch {
 
 impl Batch {
     // The plan of this report, with the key set that the host lends: how many bytes of it were written; none where nothing changed.
+    #[tactic(auto, unfolding(crate::specs::Batch::plan_left, crate::specs::Batch::plan_answered))]
     pub fn join_plan(self, buf: &mut [u8], pub_key_set: u64) -> Result<Option<usize>, Refusal>
         ensures { (buf.new ≡ plan_left base buf.old (batch_of self) pub_key_set)
             × (outcome_as_said (option_as_found (λ (x : ℕ). x)) result ≡ plan_answered base buf.old (batch_of self) pub_key_set) }

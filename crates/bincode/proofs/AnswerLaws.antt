@@ -1,4 +1,4 @@
--- What the answers that code gives tell of the readings that they came from: of a number, of a value that is its own definition, of a whole input; and where a `?` leaves.
+-- What the answers that code gives tell of the readings that they came from: of a number, of a whole input; and where a `?` leaves.
 -- Assumes nothing.
 use Prim.Native.Nat.{ℕ}
 use mathlib.Core.Path.{◌≡◌, refl, sym, ap, ◌∙◌}
@@ -16,7 +16,7 @@ use Rattle.bincode.specs.Answer.{answer_as_read, answer, step_of, all_read}
 use Rattle.bincode.specs.declared.Refusal.{Refusal}
 use Rattle.bincode.specs.declared.Refusal.TheVariants.{Malformed}
 use Rattle.bincode.proofs.NumberLaws.{read_refused}
-use Rattle.bincode.proofs.ReadLaws.{answer_ok, answer_err, step_err}
+use Rattle.bincode.proofs.ReadLaws.{answer_err, step_err}
 
 -- a number that was read, and one that was not
 module _ (w : ℕ) (s : List ℕ) (at : ℕ) {t : Result (ℕ × ℕ) Refusal} (e : answer_as_read (λ (x : ℕ). x) t ≡ read_num w s at) where
@@ -25,11 +25,6 @@ module _ (w : ℕ) (s : List ℕ) (at : ℕ) {t : Result (ℕ × ℕ) Refusal} (
 
   pub num_cut : {r : Refusal} → t ≡ Err r → read_num w s at ≡ refuse 2
   num_cut p = read_refused w s at _ (sym e ∙ ap (answer_as_read (λ (x : ℕ). x)) p)
-
--- a value that is its own definition
-module _ {A : Type 0} (x : Read A) {t : Result (A × ℕ) Refusal} (e : t ≡ answer (λ (a : A). a) x) where
-  pub own_read : {a : A} {c : ℕ} → t ≡ Ok (a, c) → x ≡ value a c
-  own_read {a} {c} p = let u = answer_ok (λ (b : A). b) x a c (sym e ∙ p) in u.1 ∙ ap (λ (b : A). value b c) (sym u.2)
 
 -- what the exit of a `?` returns: the refusal that it met
 pub passed_on : {A : Type 0} (r : Result A Refusal) (e : Refusal) → IsErrAnd r (λ (y : Refusal). y ≡ e) → r ≡ Err e

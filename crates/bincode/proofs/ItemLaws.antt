@@ -6,12 +6,19 @@ use mathlib.Core.List.{List, [], ◌∷◌, ◌++◌, append_assoc, append-nil}
 use native.Mathlib.Omega.{arith}
 use native.Mathlib.Nat.{sub-zero}
 use lib.ListN.{length}
-use borrow.Author.Tests.{lt-ltb, le-ltb}
+use borrow.Author.Tests.{le-ltb, ltb-false}
+use mathlib.Core.Bool.{Bool, true, false, cond}
+use lib.Dec.{ltb}
+use Rattle.std.specs.declared.result.Result.{Result}
+use Rattle.std.specs.declared.result.Result.TheVariants.{Ok, Err}
 use Rattle.bincode.specs.Read.{Read, value, refuse, bind}
 use Rattle.bincode.specs.Numbers.{fixed, read_num}
-use Rattle.bincode.specs.Items.{after, items, counted, plain, stay, many, foldl}
+use Rattle.bincode.specs.Items.{after, read_count, items, counted, plain, stay, many, foldl}
 use Rattle.bincode.proofs.NumberLaws.{read_refused}
-use Rattle.bincode.proofs.ReadLaws.{clash}
+use Rattle.bincode.specs.Rows.{row_number, row}
+use Rattle.bincode.specs.Answer.{answer}
+use Rattle.bincode.specs.declared.Refusal.{Refusal}
+use Rattle.bincode.proofs.ReadLaws.{clash, cross, answer_ok, bind_value, cond_value}
 
 module _ {A : Type 0} where
   after_nil : (x : Read (List A)) → after [] x ≡ x
@@ -21,6 +28,34 @@ module _ {A : Type 0} where
   after_after : (xs ys : List A) (x : Read (List A)) → after xs (after ys x) ≡ after (xs ++ ys) x
   after_after xs ys (value zs c) = ap (λ (l : List A). value l c) (sym (append_assoc xs ys zs))
   after_after xs ys (refuse k) = refl
+
+-- a count that was read is a number of eight bytes, and not over its limit
+module _ (s : List ℕ) (limit at : ℕ) where
+  pub count_read : {t : Result (ℕ × ℕ) Refusal} → t ≡ answer (λ (x : ℕ). x) (read_count fixed s limit at)
+      → {n c : ℕ} → t ≡ Ok (n, c) → (read_num 8 s at ≡ value n c) × (n ≤ limit)
+  unfolding read_count
+  count_read q {n} {c} p =
+      let a = answer_ok (λ (x : ℕ). x) (bind (read_num 8 s at) λ n c. cond (ltb limit n) (refuse 3) (value n c)) n c (sym q ∙ p) in
+      let b = bind_value (read_num 8 s at) (λ n c. cond (ltb limit n) (refuse 3) (value n c)) (a.1) in
+      let d = cond_value (value b.0 b.1) (ltb limit b.0) 3 b.3 in
+      let e : b.0 ≡ n = cc in
+      let f : b.1 ≡ c = cc in
+      (b.2 ∙ (λ t. value (e t) (f t)), rw e at (ltb-false limit b.0 d.0))
+
+-- one that was refused: what goes by it is refused by the same number
+module _ {A : Type 0} (limit k : ℕ) (f : ℕ → ℕ → Read A) (r : Refusal) (named : row_number (row k) ≡ k) where
+  refused_alike : (x : Read ℕ) → ((n : ℕ) → x ≡ refuse n → row_number (row n) ≡ n)
+      → answer (λ (y : ℕ). y) (bind x λ n c. cond (ltb limit n) (refuse k) (value n c)) ≡ Err r
+      → bind x (λ n c. cond (ltb limit n) (refuse k) (f n c)) ≡ refuse (row_number r)
+  refused_alike (refuse n) m p = let e : row n ≡ r = cc in ap refuse (sym (m n refl) ∙ ap row_number e)
+  refused_alike (value n c) m p = by_test (ltb limit n) p
+    where
+      by_test : (b : Bool) → answer (λ (y : ℕ). y) (cond b (refuse k) (value n c)) ≡ Err r → cond b (refuse k) (f n c) ≡ refuse (row_number r)
+      by_test true p = let e : row k ≡ r = cc in ap refuse (sym named ∙ ap row_number e)
+      by_test false p = absurd (cross p)
+
+cut_number : {x : Read ℕ} (n : ℕ) → x ≡ refuse n → x ≡ refuse 2 → 2 ≡ n
+cut_number n p q = cc
 
 module _ {S A : Type 0} (rd : S → ℕ → Read A) (next : S → A → S) where
   -- before the first turn
@@ -76,13 +111,13 @@ module _ {S A : Type 0} (rd : S → ℕ → Read A) (next : S → A → S) where
 
   -- a counted run goes by its count, for the fixed widths
   module _ (s : List ℕ) (limit : ℕ) (st : S) (at : ℕ) where
-    pub counted_cut : (k : ℕ) → read_num 8 s at ≡ refuse k → counted rd next fixed s limit st at ≡ refuse 2
-    unfolding counted
-    counted_cut k r = rw (read_refused 8 s at k r)
-
-    pub counted_over : (n c : ℕ) → read_num 8 s at ≡ value n c → limit < n → counted rd next fixed s limit st at ≡ refuse 3
-    unfolding counted
-    counted_over n c r h = rw (r, lt-ltb limit n h)
+    -- where the count is refused, the run is, by the same number
+    pub counted_refused : {t : Result (ℕ × ℕ) Refusal} → t ≡ answer (λ (x : ℕ). x) (read_count fixed s limit at) → {r : Refusal} → t ≡ Err r
+        → counted rd next fixed s limit st at ≡ refuse (row_number r)
+    unfolding counted read_count
+    counted_refused q {r} p =
+        refused_alike limit 3 (λ n c. items rd next n st c) r refl (read_num 8 s at)
+        (λ n e. let m : 2 ≡ n = cut_number n e (read_refused 8 s at n e) in ap (λ (k : ℕ). row_number (row k)) (sym m) ∙ m) (sym q ∙ p)
 
     pub counted_start : (n c : ℕ) → read_num 8 s at ≡ value n c → n ≤ limit
         → counted rd next fixed s limit st at ≡ after [] (items rd next (n - 0) st c)

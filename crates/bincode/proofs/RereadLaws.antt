@@ -11,11 +11,11 @@ use Rattle.bincode.specs.Read.{Read, value, refuse}
 use Rattle.bincode.specs.Numbers.{read_num, fixed}
 use Rattle.bincode.specs.Items.{items, counted, plain, stay, many, foldl}
 use Rattle.std.specs.declared.result.Result.{Result}
-use Rattle.std.specs.declared.result.Result.TheVariants.{Ok, Err}
+use Rattle.std.specs.declared.result.Result.TheVariants.{Err}
 use Rattle.bincode.specs.Answer.{answer}
 use Rattle.bincode.specs.declared.Refusal.{Refusal}
 use Rattle.bincode.proofs.NumberLaws.{read_value}
-use Rattle.bincode.proofs.ReadLaws.{clash, same_next, same_value, answer_ok, answer_err, bind_value, cond_value}
+use Rattle.bincode.proofs.ReadLaws.{clash, same_next, same_value, answer_err, bind_value, cond_value}
 use Rattle.bincode.proofs.ItemLaws.{uncons, length_items}
 
 -- a counted run that was read is a count, and as many items behind it
@@ -90,10 +90,5 @@ module _ {A B : Type 0} (rd : ℕ → Read A) (f : B → A → B) (n at₀ : ℕ
   Handling i at b = Rereading (plain rd) stay f n tt at₀ b₀ i tt at b
 
   module _ (i at : ℕ) (b : B) (w : Handling i at b) (h : i < n) {H : Type 0} (held : A → H) (t : Result (H × ℕ) Refusal) (e : t ≡ answer held (rd at)) where
-    pub handle_more : (view : H → A) → ((a : A) → view (held a) ≡ a) → (x : H) (d : ℕ) → t ≡ Ok (x, d) → (b' : B) → b' ≡ f b (view x) → Handling (i + 1) d b'
-    handle_more view same x d p b' g =
-        let u = answer_ok held (rd at) x d (sym e ∙ p) in
-        reread_more (plain rd) stay f n tt at₀ b₀ i tt at b w h u.0 d u.1 tt refl b' (g ∙ ap (f b) (ap view u.2 ∙ same u.0))
-
     pub handle_refused : (r : Refusal) → t ≡ Err r → (xs : List A) (c : ℕ) → many rd n at₀ ≡ value xs c → ⊥
     handle_refused r p = let u = answer_err held (rd at) r (sym e ∙ p) in reread_refused (plain rd) stay f n tt at₀ b₀ i tt at b w h u.0 u.1

@@ -1,11 +1,11 @@
--- Bytes that stand at a position: in parts, and put there.
+-- Bytes that stand at a position, in parts.
 -- Assumes nothing.
 use Prim.Native.Nat.{ℕ, zero, suc, ◌+◌, ◌≤◌}
 use mathlib.Core.Path.{◌≡◌, refl, sym, ap, ◌∙◌}
-use mathlib.Core.List.{List, [], ◌∷◌, ◌++◌, append_assoc}
+use mathlib.Core.List.{List, [], ◌∷◌, ◌++◌}
 use native.Mathlib.Omega.{arith}
 use lib.ListN.{length, take, drop, length-append}
-use lib.Seq.{sets, sets-eq, take-add, take-take, drop-drop, take-append_seam, drop_at, take_at, length-take-le, take_all, take-length}
+use lib.Seq.{take-add, take-take, drop-drop, take-append_seam, drop_at, take_all, take-length}
 use Rattle.bincode.specs.Stands.{Bytes, Stands}
 
 module _ (s : List ℕ) where
@@ -25,12 +25,6 @@ module _ (s : List ℕ) where
 
   pub stands_both : (at : ℕ) (xs ys : List ℕ) → Stands s at xs → Stands s (at + length xs) ys → Stands s at (xs ++ ys)
   stands_both at xs ys p q = rw (length-append, take-add, p, drop-drop, q)
-
--- what was put at a position stands there
-pub stands_put : (l : List ℕ) (at : ℕ) (bs : List ℕ) → at + length bs ≤ length l → Stands (sets l at bs) at bs
-stands_put l at bs h =
-    rw (sets-eq bs l at h, append_assoc, drop_at (take at l) (bs ++ drop (at + length bs) l) at (length-take-le at l (omega arith)))
-    (take_at bs (drop (at + length bs) l) (length bs) refl)
 
 -- bytes stand in themselves, and what stands from the first byte to the last is all of them
 pub stands_self : (bs : List ℕ) → Stands bs 0 bs

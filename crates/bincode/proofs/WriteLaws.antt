@@ -1,12 +1,12 @@
 -- Laws of writing: with room, without, and several fields one after the other.
 -- Assumes nothing.
-use Prim.Native.Nat.{ℕ, suc, ◌+◌, ◌-◌, ◌≤◌, ◌<◌}
+use Prim.Native.Nat.{ℕ, suc, ◌+◌, ◌-◌, ◌^◌, ◌≤◌, ◌<◌}
 use mathlib.Core.Path.{◌≡◌, refl, sym, ap, ◌∙◌}
 use mathlib.Core.List.{List, [], ◌∷◌, ◌++◌, append_assoc}
 use native.Mathlib.Omega.{arith}
 use native.Mathlib.Nat.{add-zero}
 use lib.Dec.{leb}
-use mathlib.Core.Bool.{true, false}
+use mathlib.Core.Bool.{true}
 use lib.ListN.{length, drop, set, length-append}
 use lib.Seq.{sets, length-sets, drop-drop}
 use borrow.Author.Tests.{le-leb, lt-leb, leb-true}
@@ -14,8 +14,7 @@ use borrow.Rule.Slice.PartMut.{put_mid}
 use Rattle.std.proofs.lemmas.List.Edits.{sets-eq}
 use Rattle.bincode.specs.Numbers.{bytes_of}
 use Rattle.bincode.specs.Stands.{concat, concat_map}
-use Rattle.bincode.specs.Writing.{written, written_to}
-use Rattle.bincode.proofs.NumberLaws.{length_bytes_of}
+use Rattle.bincode.specs.Writing.{written, written_to, told_size}
 
 -- a run of stores, in two parts
 pub sets_append : (xs ys l : List ℕ) (i : ℕ) → sets l i (xs ++ ys) ≡ sets (sets l i xs) (i + length xs) ys
@@ -34,28 +33,19 @@ module _ (l : List ℕ) (at : ℕ) (bs : List ℕ) where
   unfolding written written_to
   has_room h = (rw (le-leb (at + length bs) (length l) h), rw (le-leb (at + length bs) (length l) h))
 
--- the same of a number of any width
-module _ (l : List ℕ) (at w x : ℕ) where
-  pub number_no_room : leb (at + w) (length l) ≡ false → (l ≡ written l at (bytes_of w x)) × (at ≡ written_to l at (bytes_of w x))
-  unfolding written written_to
-  number_no_room h = (rw (length_bytes_of w x, h), rw (length_bytes_of w x, h))
+-- bytes with room put into their part of the buffer
+pub bytes_put : (l : List ℕ) (at n : ℕ) (bs : List ℕ) → length bs ≡ n → leb (at + n) (length l) ≡ true
+    → (put_mid at (at + n - at) l bs ≡ written l at bs) × (at + n ≡ written_to l at bs)
+unfolding written written_to
+bytes_put l at n bs e h =
+    let r = leb-true (at + n) (length l) h in
+    let k : at + n - at ≡ n = omega arith in
+    let s = sets-eq bs l at (omega arith) in
+    (rw (e, h, k, s, e, drop-drop, append_assoc), rw (e, h))
 
-  pub number_has_room : leb (at + w) (length l) ≡ true → (sets l at (bytes_of w x) ≡ written l at (bytes_of w x)) × (at + w ≡ written_to l at (bytes_of w x))
-  unfolding written written_to
-  number_has_room h = (rw (length_bytes_of w x, h), rw (length_bytes_of w x, h))
-
--- its bytes put into their part of the buffer
-pub number_put : (l : List ℕ) (at w x : ℕ) → leb (at + w) (length l) ≡ true → put_mid at (at + w - at) l (bytes_of w x) ≡ sets l at (bytes_of w x)
-number_put l at w x h =
-    let r = leb-true (at + w) (length l) h in
-    let n = length_bytes_of w x in
-    let e : at + w - at ≡ w = omega arith in
-    let s = sets-eq (bytes_of w x) l at (omega (arith, n)) in
-    rw (e, s, n, drop-drop, append_assoc)
-
--- two values one behind the other take as many bytes as both
-pub length_two : (xs ys : List ℕ) → length (concat (xs ∷ ys ∷ [])) ≡ length xs + length ys
-length_two xs ys = simp (length-append, add-zero)
+-- how many bytes there are, where a number of 64 bits tells it
+pub size_told : (n : ℕ) (bs : List ℕ) → n ≡ length bs → n < 2 ^ 64 → n ≡ told_size bs
+size_told n bs e h = omega arith
 
 -- fields written one after the other
 abbrev pub written_all : List ℕ → ℕ → List (List ℕ) → List ℕ

@@ -1,5 +1,5 @@
 -- What the functions' `Result`s say: of a reader as a `Read`, of another call as an `Outcome`, each refusal by 01's number.
-use Rattle.std.specs.Prelude.{ℕ, List, Ok, Err, cond, length, ltb}
+use Rattle.std.specs.Prelude.{ℕ, ◌+◌, List, Ok, Err, cond, length, take, drop, leb, ltb}
 use Rattle.std.specs.declared.result.Result.{Result}
 use Rattle.bincode.specs.Read.{Read, value, refuse}
 use Rattle.bincode.specs.Outcome.{Outcome, done, refused}
@@ -36,3 +36,7 @@ module _ {T : Type 0} where
   abbrev pub all_read : List ℕ → Result (T × ℕ) Refusal → Result (T × ℕ) Refusal
   all_read s (Ok (x, c)) = cond (ltb c (length s)) (Err Malformed) (Ok (x, c))
   all_read s (Err r) = Err r
+
+-- the n bytes at a position, with the position behind them; row 2 where they are cut
+abbrev pub bytes_at : ℕ → List ℕ → ℕ → Result (List ℕ × ℕ) Refusal
+bytes_at n s at = cond (leb (at + n) (length s)) (Ok (take n (drop at s), at + n)) (Err Malformed)

@@ -9,6 +9,10 @@ module _ {A : Type 0} where
   after xs (value ys c) = value (xs ++ ys) c
   after xs (refuse n) = refuse n
 
+-- a u64 count by itself; over the limit it is 3
+unfoldable pub read_count : Edition → List ℕ → ℕ → ℕ → Read ℕ
+read_count e s limit at = bind (e.read 8 s at) λ n c. cond (ltb limit n) (refuse 3) (value n c)
+
 module _ {S A : Type 0} (rd : S → ℕ → Read A) (next : S → A → S) where
   -- n items from a position on
   unfoldable pub items : ℕ → S → ℕ → Read (List A)

@@ -1,5 +1,5 @@
 -- What a writer leaves in a lent buffer and what it answers.
-use Rattle.std.specs.Prelude.{ℕ, ◌+◌, List, Bool, cond, length, leb}
+use Rattle.std.specs.Prelude.{ℕ, ◌+◌, ◌-◌, ◌^◌, min, List, Bool, cond, length, leb}
 use Rattle.std.proofs.lemmas.List.Edits.{sets}
 
 -- n bytes have room in a buffer of a length from a position on
@@ -14,3 +14,7 @@ written l at bs = cond (has_room (length l) at (length bs)) (sets l at bs) l
 -- No encoding is empty, so the position given says 'no room'.
 unfoldable pub written_to : List ℕ → ℕ → List ℕ → ℕ
 written_to l at bs = cond (has_room (length l) at (length bs)) (at + length bs) at
+
+-- how many bytes there are, as far as a number of 64 bits tells it; no memory has more
+abbrev pub told_size : List ℕ → ℕ
+told_size bs = min (length bs) (2 ^ 64 - 1)

@@ -2,12 +2,13 @@
 #![tactic(auto)]
 
 ghost use Rattle.std.specs.Prelude.{◌≡◌, ℕ, ◌+◌, ◌≤◌, List, [], ◌∷◌, length};
-ghost use Rattle.bincode.specs.Numbers.{bytes_of, read_num};
+ghost use Rattle.bincode.specs.Numbers.{bytes_of, read_num, fixed};
+ghost use Rattle.bincode.specs.Read.{Read, whole};
+ghost use Rattle.bincode.specs.Items.{read_count};
 ghost use Rattle.bincode.specs.Rows.{row_number};
-ghost use Rattle.bincode.specs.Sizes.{base};
 ghost use Rattle.bincode.specs.Stands.{concat};
-ghost use Rattle.bincode.specs.Writing.{has_room, written, written_to};
-ghost use Rattle.bincode.specs.Answer.{answer_as_read, all_read};
+ghost use Rattle.bincode.specs.Writing.{has_room, written, written_to, told_size};
+ghost use Rattle.bincode.specs.Answer.{answer_as_read, answer, bytes_at, all_read};
 
 use std::fmt;
 
@@ -30,12 +31,12 @@ pub enum Refusal {
     OtherEra,
 }
 
-impl Refusal {
-    // The number of the row.
-    pub fn number(self) -> u8
-        ensures { result ≡ row_number self }
-    {
-        match self {
+// The number of the row.
+impl From<Refusal> for u8 {
+    ghost from_gives = { λ r n. n ≡ row_number r };
+
+    fn from(refusal: Refusal) -> u8 {
+        match refusal {
             Refusal::ShortBuffer => 1,
             Refusal::Malformed => 2,
             Refusal::TooLarge => 3,
@@ -56,7 +57,7 @@ impl Refusal {
 
 impl fmt::Display for Refusal {
     fn fmt<W: fmt::Write>(&self, f: &mut fmt::Formatter<W>) -> fmt::Result {
-        write!(f, "{}", self.number())
+        write!(f, "{}", u8::from(*self))
     }
 }
 
@@ -67,48 +68,74 @@ pub fn room(len: usize, at: usize, n: usize) -> bool
     at <= len && n <= len - at
 }
 
+// The N bytes at a position, with the position behind them.
+fn bytes_at<const N: usize>(s: &[u8], at: usize) -> Result<([u8; N], usize), Refusal>
+    ensures { result ≡ bytes_at N s.now at }
+{
+    if !room(s.len(), at, N) {
+        return Err(Refusal::Malformed);
+    }
+    let mut bytes = [0; N];
+    bytes.copy_from_slice(&s[at..at + N]);
+    Ok((bytes, at + N))
+}
+
 // A number with the position behind it.
+#[tactic(auto, using(crate::proofs::ByteLaws::from_le4), unfolding(crate::specs::Numbers::read_num))]
 pub fn read_u32(s: &[u8], at: usize) -> Result<(u32, usize), Refusal>
     ensures { answer_as_read (λ (x : ℕ). x) result ≡ read_num 4 s.now at }
 {
-    if !room(s.len(), at, 4) {
-        return Err(Refusal::Malformed);
-    }
-    let mut bytes = [0; 4];
-    bytes.copy_from_slice(&s[at..at + 4]);
-    Ok((u32::from_le_bytes(bytes), at + 4))
+    let (bytes, c) = bytes_at(s, at)?;
+    Ok((u32::from_le_bytes(bytes), c))
 }
 
+#[tactic(auto, using(crate::proofs::ByteLaws::from_le8), unfolding(crate::specs::Numbers::read_num))]
 pub fn read_u64(s: &[u8], at: usize) -> Result<(u64, usize), Refusal>
     ensures { answer_as_read (λ (x : ℕ). x) result ≡ read_num 8 s.now at }
 {
-    if !room(s.len(), at, 8) {
+    let (bytes, c) = bytes_at(s, at)?;
+    Ok((u64::from_le_bytes(bytes), c))
+}
+
+// A count of at most `limit`, as it stands in front of as many items: row 2 where it is cut, row 3 over the limit.
+#[tactic(auto, using(crate::proofs::NumberLaws::read_refused), unfolding(crate::specs::Items::read_count))]
+pub fn read_count(s: &[u8], at: usize, limit: u64) -> Result<(u64, usize), Refusal>
+    ensures { result ≡ answer (λ (n : ℕ). n) (read_count fixed s.now limit at) }
+{
+    let Ok((n, c)) = read_u64(s, at) else {
         return Err(Refusal::Malformed);
+    };
+    if limit < n {
+        return Err(Refusal::TooLarge);
     }
-    let mut bytes = [0; 8];
-    bytes.copy_from_slice(&s[at..at + 8]);
-    Ok((u64::from_le_bytes(bytes), at + 8))
+    Ok((n, c))
+}
+
+// N bytes put at a position; the position behind them, or `at` where they have no room, and then nothing is written.
+#[tactic(auto, unfolding(crate::specs::Writing::written, crate::specs::Writing::written_to))]
+fn put_bytes<const N: usize>(buf: &mut [u8], at: usize, bytes: [u8; N]) -> usize
+    ensures { (buf.new ≡ written buf.old at bytes.entry) × (result ≡ written_to buf.old at bytes.entry) }
+{
+    if !room(buf.len(), at, N) {
+        return at;
+    }
+    buf[at..at + N].copy_from_slice(&bytes);
+    at + N
 }
 
 // The position behind the number, or `at` where it has no room; then nothing is written.
+#[tactic(auto, using(crate::proofs::ByteLaws::to_le4))]
 pub fn write_u32(buf: &mut [u8], at: usize, x: u32) -> usize
     ensures { (buf.new ≡ written buf.old at (bytes_of 4 x)) × (result ≡ written_to buf.old at (bytes_of 4 x)) }
 {
-    if !room(buf.len(), at, 4) {
-        return at;
-    }
-    buf[at..at + 4].copy_from_slice(&x.to_le_bytes());
-    at + 4
+    put_bytes(buf, at, x.to_le_bytes())
 }
 
+#[tactic(auto, using(crate::proofs::ByteLaws::to_le8))]
 pub fn write_u64(buf: &mut [u8], at: usize, x: u64) -> usize
     ensures { (buf.new ≡ written buf.old at (bytes_of 8 x)) × (result ≡ written_to buf.old at (bytes_of 8 x)) }
 {
-    if !room(buf.len(), at, 8) {
-        return at;
-    }
-    buf[at..at + 8].copy_from_slice(&x.to_le_bytes());
-    at + 8
+    put_bytes(buf, at, u64::to_le_bytes(x))
 }
 
 // The answer of a reading from the first byte on, where it must take the whole input: nothing may be left over.
@@ -121,13 +148,58 @@ pub fn all_read<T: Copy>(s: &[u8], read: Result<(T, usize), Refusal>) -> Result<
     }
 }
 
+// What can be read from bytes: what is read, and how code holds it.
+pub trait Decoded: Copy {
+    ghost Value: { Type 0 };
+
+    ghost held: { Value → Self };
+
+    ghost read_at: { List ℕ → ℕ → Read Value };
+
+    // The value at a position, with the position behind it.
+    fn read(s: &[u8], at: usize) -> Result<(Self, usize), Refusal>
+        ensures { result ≡ answer held (read_at s.now at) };
+}
+
+impl Decoded for u32 {
+    ghost Value = { ℕ };
+
+    ghost held = { λ x. x };
+
+    ghost read_at = { read_num 4 };
+
+    fn read(s: &[u8], at: usize) -> Result<(Self, usize), Refusal> {
+        read_u32(s, at)
+    }
+}
+
+impl Decoded for u64 {
+    ghost Value = { ℕ };
+
+    ghost held = { λ x. x };
+
+    ghost read_at = { read_num 8 };
+
+    fn read(s: &[u8], at: usize) -> Result<(Self, usize), Refusal> {
+        read_u64(s, at)
+    }
+}
+
+// A value that is a whole input: nothing may be left over.
+#[tactic(auto, using(crate::proofs::AnswerLaws::all_read_whole))]
+pub fn read_whole<T: Decoded>(s: &[u8]) -> Result<(T, usize), Refusal>
+    ensures { result ≡ answer T.held (whole (T.read_at s.now) s.now) }
+{
+    all_read(s, T::read(s, 0))
+}
+
 // What is written as bytes, one after the other.
 pub trait Encoded: Copy {
     ghost bytes: { Self → List ℕ };
 
-    // How many bytes the value takes; none takes more than a batch may have.
+    // How many bytes the value takes, as far as a `usize` tells it.
     fn size(&self) -> usize
-        ensures { (result ≡ length (bytes self.now)) × (result ≤ base.batch) };
+        ensures { result ≡ told_size (bytes self.now) };
 
     // The position behind the value, or `at` where it has no room; then nothing is written.
     fn write(&self, buf: &mut [u8], at: usize) -> usize
@@ -160,15 +232,45 @@ impl Encoded for u64 {
     }
 }
 
-// Two values one behind the other, as a tag and what it is of; or `at` where they have no room, and then nothing is written.
-pub fn write_both<A: Encoded, B: Encoded>(buf: &mut [u8], at: usize, first: A, second: B) -> usize
-    ensures { (buf.new ≡ written buf.old at (concat (A.bytes first ∷ B.bytes second ∷ [])))
-        × (result ≡ written_to buf.old at (concat (A.bytes first ∷ B.bytes second ∷ []))) }
-{
-    if room(buf.len(), at, first.size() + second.size()) {
-        let c = first.write(buf, at);
-        second.write(buf, c)
-    } else {
-        at
+// Values one behind the other, as a tag and what it is of; or `at` where they have no room, and then nothing is written.
+impl<A: Encoded, B: Encoded> Encoded for (A, B) {
+    ghost bytes = { λ x. concat (A.bytes x.0 ∷ B.bytes x.1 ∷ []) };
+
+    fn size(&self) -> usize {
+        self.0.size().saturating_add(self.1.size())
+    }
+
+    #[tactic(auto, unfolding(crate::specs::Writing::written, crate::specs::Writing::written_to))]
+    fn write(&self, buf: &mut [u8], at: usize) -> usize {
+        if room(buf.len(), at, self.size()) {
+            let c = self.0.write(buf, at);
+            self.1.write(buf, c)
+        } else {
+            at
+        }
+    }
+}
+
+impl<A: Encoded, B: Encoded, C: Encoded> Encoded for (A, B, C) {
+    ghost bytes = { λ x. concat (A.bytes x.0 ∷ B.bytes x.1 ∷ C.bytes x.2 ∷ []) };
+
+    fn size(&self) -> usize {
+        (self.0, (self.1, self.2)).size()
+    }
+
+    fn write(&self, buf: &mut [u8], at: usize) -> usize {
+        (self.0, (self.1, self.2)).write(buf, at)
+    }
+}
+
+impl<A: Encoded, B: Encoded, C: Encoded, D: Encoded> Encoded for (A, B, C, D) {
+    ghost bytes = { λ x. concat (A.bytes x.0 ∷ B.bytes x.1 ∷ C.bytes x.2 ∷ D.bytes x.3 ∷ []) };
+
+    fn size(&self) -> usize {
+        (self.0, (self.1, self.2, self.3)).size()
+    }
+
+    fn write(&self, buf: &mut [u8], at: usize) -> usize {
+        (self.0, (self.1, self.2, self.3)).write(buf, at)
     }
 }

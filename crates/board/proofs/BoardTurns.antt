@@ -1,21 +1,23 @@
 -- Turns of the loops that work out a board.
 -- Assumes nothing.
 use Prim.Native.Nat.{ℕ, zero, suc, ◌+◌, ◌≤◌, ◌<◌, min}
-use mathlib.Core.Path.{◌≡◌, refl, sym, ap, ◌∙◌}
+use mathlib.Core.Path.{◌≡◌, refl, sym, ap, ◌∙◌, subst}
 use mathlib.Core.List.{List, [], ◌∷◌, ◌++◌, map}
 use mathlib.Core.Bool.{Bool, true, false, cond, not}
 use native.Mathlib.Omega.{arith}
+use native.Mathlib.Nat.{add-zero, zero-add}
 use lib.Dec.{eqb, ltb}
-use lib.ListN.{length, take, drop, get_or, set, replicate, length-map, get_or-map}
-use lib.Seq.{take_all, get_or-set_same, get_or-set_other}
+use lib.ListN.{length, take, drop, get_or, set, replicate, length-map, length-set, length-drop, get_or-map}
+use lib.Seq.{take_all, get_or-drop, get_or-set_same, get_or-set_other}
 use borrow.Author.Tests.{eq-eqb, ne_eqb, eqb-true, eqb-false, ltb-false}
 use Rattle.lists.specs.Lists.{Found, map_found, lookup}
 use Rattle.std.specs.Prelude.{position, Some, None}
-use Rattle.std.specs.List.{position_or_len}
+use Rattle.std.specs.List.{position_or_len, enumerate_from}
 use Rattle.std.specs.Option.{unwrap_or}
+use Rattle.std.proofs.lemmas.List.FromFn.{length-enumerate_from, get_or-enumerate_from}
 use Rattle.lists.proofs.ListLaws.{false_true}
 use Rattle.lists.proofs.SortedLaws.{map_lookup}
-use Rattle.change.specs.Change.{ChangeOf, same_change}
+use Rattle.change.specs.Change.{ChangeOf, change_of, same_change}
 use Rattle.change.proofs.ChangeLaws.{change_true, change_refl}
 use Rattle.votes.specs.declared.SignedVote.{SignedVote}
 use Rattle.votes.specs.Votes.{SignedVoteOf, signed_of, no_signed, voter_in as voter_in_vote}
@@ -28,7 +30,7 @@ use Rattle.winner.proofs.LowestTurns.{none_supports, lowest_yes, lowest_no, lowe
 use Rattle.winner.proofs.BoardOrder.{in_order_map}
 use Rattle.board.specs.declared.BoardRow.{BoardRow}
 use Rattle.board.specs.Board.{count_in, voter_in, cast_of, kept_row, worked_out, change_by}
-use Rattle.board.specs.Turns.{rank, choice_at, Begins, had_before, Marked}
+use Rattle.board.specs.Turns.{rank, choice_at, Begins, had_before, Marked, Begun}
 
 -- the change that a look-up among the structs finds
 pub held_change : (t : SignedVotes) (k : ℕ) (x : Found SignedVote) → lookup voter_in_vote (held t) k ≡ x → change_by (lookup voter_of (votes_of t) k) ≡ change_by (map_found signed_of x)
@@ -275,3 +277,85 @@ module _ (vs : List SignedVoteOf) where
   pub all_in : (i : ℕ) → length vs ≤ i → (done : List BoardRow) → in_order count_in voter_in done (to_come i) ≡ done
   unfolding in_order
   all_in i h done = rw (choices_end same_change (choices (map cast_of vs)) i (omega (arith, length-map (map cast_of vs) (λ (c : Cast ChangeOf). c.choice), length-map vs cast_of)))
+
+-- the loop over the votes behind place p: what it keeps before place j
+module _ (xs : List SignedVote) (p : ℕ) (before : List Bool) where
+  abbrev all : List SignedVoteOf
+  all = map signed_of xs
+
+  abbrev pub Going : ℕ → List Bool → ℕ → ℕ → Type 0
+  Going j seen low count =
+      (count ≤ j) × (length seen ≡ length before)
+      × ((l : p < length all) → Marked all p before → get_or before p false ≡ false → Counted all p l low count j × Marking all p j seen)
+
+  pub going_start : (z : SignedVote) → Going (p + 1 + 0) before (get_or xs p z).voter 1
+  going_start z =
+      rw add-zero (
+        omega arith,
+        refl,
+        λ l m f. (
+          subst (λ (k : ℕ). Counted all p l k 1 (p + 1)) (ap voter_of (vote_at xs p l z)) (counted_start all p l (first_here all p before l m f)),
+          marking_start all p before m,
+        ),
+      )
+
+  -- a turn: the vote x at place j is for the change, or it is not
+  module _ (i j : ℕ) (x : SignedVote) (t : (i < length (drop (p + 1) (enumerate_from 0 xs))) × (◌≡◌ {A = ℕ × SignedVote} (j, x) (get_or (drop (p + 1) (enumerate_from 0 xs)) i (j, x)))) where
+    within : p + 1 + i < length xs
+    within = omega (arith, t.0, length-drop (p + 1) (enumerate_from 0 xs), length-enumerate_from 0 xs)
+
+    turn_is : ◌≡◌ {A = ℕ × SignedVote} (j, x) (p + 1 + i, get_or xs (p + 1 + i) x)
+    turn_is =
+        t.1 ∙ get_or-drop (p + 1) (enumerate_from 0 xs) i (j, x) ∙ get_or-enumerate_from 0 xs (p + 1 + i) (j, x) within
+        ∙ ap {B = ℕ × SignedVote} (λ (m : ℕ). (m, get_or xs (p + 1 + i) x)) (zero-add (p + 1 + i))
+
+    place_is : j ≡ p + 1 + i
+    place_is = ap (λ (y : ℕ × SignedVote). y.0) turn_is
+
+    vote_is : (k : j < length all) → get_or all j no_signed ≡ signed_of x
+    vote_is k = vote_at xs j k x ∙ ap signed_of (ap (λ (m : ℕ). get_or xs m x) place_is ∙ sym (ap (λ (y : ℕ × SignedVote). y.1) turn_is))
+
+    agreed : (z : SignedVote) → p < length all → j < length all → same_change (choice_at all j) (choice_at all p) ≡ same_change (change_of x.vote.change) (change_of (get_or xs p z).vote.change)
+    agreed z l k = λ n. same_change (vote_is k n).vote.change (vote_at xs p l z n).vote.change
+
+    module _ (z : SignedVote) (seen : List Bool) (low count n : ℕ) (next : n ≡ i + 1) (g : Going (p + 1 + i) seen low count) where
+      there : j < length all
+      there = omega (arith, within, place_is, length-map xs signed_of)
+
+      so_far : Going j seen low count
+      so_far = subst (λ (m : ℕ). Going m seen low count) (sym place_is) g
+
+      pub going_yes : length xs ≤ length before → same_change (change_of x.vote.change) (change_of (get_or xs p z).vote.change) ≡ true → (low' : ℕ) → low' ≡ min low x.voter
+          → Going (p + 1 + n) (set seen j true) low' (count + 1)
+      going_yes room e low' q =
+          subst (λ (m : ℕ). Going m (set seen j true) low' (count + 1)) (omega (arith, place_is, next)) (
+            omega (arith, so_far.0),
+            length-set seen j true ∙ so_far.1,
+            λ l m f.
+                let u = so_far.2 l m f in
+                let s = agreed z l there ∙ e in (
+                  subst (λ (k : ℕ). Counted all p l k (count + 1) (j + 1)) (ap (λ (v : SignedVoteOf). min low (voter_of v)) (vote_is there) ∙ sym q) (counted_yes all p l low count j there u.0 s),
+                  marking_yes all p j seen l there u.1 (omega (arith, so_far.1, within, place_is, room)) s,
+                ),
+          )
+
+      pub going_no : same_change (change_of x.vote.change) (change_of (get_or xs p z).vote.change) ≡ false → Going (p + 1 + n) seen low count
+      going_no e =
+          subst (λ (m : ℕ). Going m seen low count) (omega (arith, place_is, next)) (
+            omega (arith, so_far.0),
+            so_far.1,
+            λ l m f.
+                let u = so_far.2 l m f in
+                let s = agreed z l there ∙ e in
+                (counted_no all p l low count j there u.0 s, marking_no all p j seen l there u.1 s),
+          )
+
+  -- behind the last turn
+  pub going_end : (i : ℕ) → i ≡ length (drop (p + 1) (enumerate_from 0 xs)) → p < length xs → (seen : List Bool) (low count : ℕ) → Going (p + 1 + i) seen low count
+      → Begun all p before (record { voter = low; count = count }) seen
+  going_end i e h seen low count g m f =
+      let n = length-map xs signed_of in
+      let end : length all ≤ p + 1 + i = omega (arith, n, e, length-drop (p + 1) (enumerate_from 0 xs), length-enumerate_from 0 xs) in
+      let l : p < length all = omega (arith, n, h) in
+      let u = g.2 l m f in
+      (begins all p l low count (p + 1 + i) end u.0, marking_end all p (p + 1 + i) seen end u.1)

@@ -45,13 +45,12 @@ fn is_before(r: BoardRow, q: BoardRow) -> bool
 }
 
 // The change that a voter's vote is for; without a vote the empty map.
+#[tactic(auto, using(crate::proofs::BoardTurns::held_change))]
 fn change_of(votes: SignedVotes, voter: u32) -> Change
     ensures { change_of result ≡ change_by (lookup voter_of (votes_of votes) voter) }
 {
-    match votes.votes.get(voter) {
-        Some(x) => x.vote.change,
-        None => Change::NodeChange(PubKeyMap::empty()),
-    }
+    let none = Change::NodeChange(PubKeyMap::empty());
+    votes.votes.get(voter).map_or(none, |x| x.vote.change)
 }
 
 // The row of the change that the vote at a place is for, where no earlier one is: the votes behind it that are for it are counted and marked.
@@ -63,8 +62,7 @@ fn row_of(votes: &[SignedVote], place: usize, seen: &mut [bool; Board::LIMIT]) -
     let change = first.vote.change;
     let mut voter = first.voter;
     let mut count: usize = 1;
-    for j in place + 1..votes.len() {
-        let x = votes[j];
+    for (j, x) in votes.iter().enumerate().skip(place + 1) {
         if x.is_for(change) {
             seen[j] = true;
             count += 1;

@@ -1,4 +1,4 @@
--- Laws of changes and their states: the length in bytes, equality, that the value that holds one stands for it, reading by tag.
+-- Laws of changes and their states: the length in bytes, equality, that the value that holds one stands for it.
 -- Assumes nothing.
 use Prim.Native.Nat.{ℕ, ◌+◌}
 use mathlib.Core.Path.{◌≡◌, refl, ap}
@@ -7,21 +7,18 @@ use mathlib.Core.Bool.{true}
 use native.Mathlib.Omega.{arith}
 use lib.ListN.{length, length-append}
 use Rattle.lists.proofs.ListLaws.{false_true, take_padded}
-use Rattle.bincode.specs.Numbers.{fixed, bytes_of, read_num}
-use Rattle.bincode.specs.Read.{Read, value, refuse, bind}
-use Rattle.bincode.specs.Answer.{step_of}
+use Rattle.bincode.specs.Numbers.{fixed, bytes_of}
 use Rattle.bincode.specs.Stands.{concat}
-use Rattle.bincode.specs.Sizes.{Sizes, base}
+use Rattle.bincode.specs.Sizes.{base}
 use Rattle.bincode.proofs.NumberLaws.{length_bytes_of}
-use Rattle.pub_key_map.specs.declared.Node.{Node}
-use Rattle.pub_key_map.specs.PubKeyMap.{no_node, read_map, map_bytes}
+use Rattle.pub_key_map.specs.PubKeyMap.{no_node, map_bytes}
 use Rattle.pub_key_map.proofs.MapLaws.{map_true, map_refl, map_eq}
 use Rattle.honey_badger.specs.EncryptionSchedule.{schedule_bytes}
 use Rattle.honey_badger.proofs.ScheduleLaws.{schedule_true, schedule_refl, schedule_eq}
 use Rattle.change.specs.declared.Change.{Change}
 use Rattle.change.specs.declared.Change.TheVariants.{NodeChange, EncryptionSchedule as ScheduleChange}
 use Rattle.change.specs.contracts.ChangePartialEq.TheImpl.{eq-value}
-use Rattle.change.specs.Change.{ChangeOf, node_change, encryption_schedule, ChangeStateOf, none, in_progress, complete, change_of, change_held, state_of, state_held, same_change, read_change, change_bytes, state_bytes}
+use Rattle.change.specs.Change.{ChangeOf, node_change, encryption_schedule, ChangeStateOf, none, in_progress, complete, change_of, change_held, state_of, state_held, same_change, change_bytes, state_bytes}
 
 -- how many bytes a tag takes with what stands behind it
 pub length_tagged : (t : ℕ) (bs : List ℕ) → length (concat (bytes_of 4 t ∷ bs ∷ [])) ≡ 4 + length bs
@@ -79,12 +76,3 @@ pub held_state : (x : ChangeStateOf) → state_of (state_held x) ≡ x
 held_state none = refl
 held_state (in_progress c) = ap in_progress (held_change c)
 held_state (complete c) = ap complete (held_change c)
-
--- a change with a map behind its tag goes on, or is refused, as the map does
-pub step_map : (z : Sizes) (s : List ℕ) (at t c : ℕ) → read_num 4 s at ≡ value t c → t ≡ 0 → step_of (read_map fixed z s c) ≡ step_of (read_change fixed z s at)
-unfolding read_change
-step_map z s at t c r e = rw (r, e) (go (read_map fixed z s c))
-  where
-    go : (x : Read (List Node)) → step_of x ≡ step_of (bind x (λ ns d. value (node_change ns) d))
-    go (value ns d) = refl
-    go (refuse n) = refl

@@ -1,4 +1,3 @@
-pub mod FaultLaws
 pub mod HandledLaws
 pub mod MessageLaws
 pub mod InsertLaws

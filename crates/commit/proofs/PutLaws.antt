@@ -29,19 +29,13 @@ module _ (s : List ℕ) (era : ℕ) (ns : List Node) (v : SignedVoteOf) (a : Ent
   module _ (x : SignedVoteOf) (e : Entry) (q : e.voter ≡ voter_of x) (vs : List SignedVoteOf) (es : List Entry) (low : ℕ) (xs : List SignedVoteOf) where
     past : voter_of x < voter_of v → Tallied s era ns low xs (x ∷ insert voter_of v vs) (e ∷ insert entry_voter a es)
         → Tallied s era ns low xs (insert voter_of v (x ∷ vs)) (insert entry_voter a (e ∷ es))
-    past l t =
-        let n = f.numbers.by_voter in
-        rw (insert_past voter_of v x vs l, insert_past entry_voter a e es (omega arith)) t
+    past l t = rw (insert_past voter_of v x vs l, insert_past entry_voter a e es (omega (arith, f.numbers.by_voter))) t
 
     over : voter_of x ≡ voter_of v → Tallied s era ns low xs (v ∷ vs) (a ∷ es) → Tallied s era ns low xs (insert voter_of v (x ∷ vs)) (insert entry_voter a (e ∷ es))
-    over l t =
-        let n = f.numbers.by_voter in
-        rw (insert_over voter_of v x vs l, insert_over entry_voter a e es (omega arith)) t
+    over l t = rw (insert_over voter_of v x vs l, insert_over entry_voter a e es (omega (arith, f.numbers.by_voter))) t
 
     ahead : voter_of v < voter_of x → Tallied s era ns low xs (v ∷ x ∷ vs) (a ∷ e ∷ es) → Tallied s era ns low xs (insert voter_of v (x ∷ vs)) (insert entry_voter a (e ∷ es))
-    ahead l t =
-        let n = f.numbers.by_voter in
-        rw (insert_before voter_of v x vs l, insert_before entry_voter a e es (omega arith)) t
+    ahead l t = rw (insert_before voter_of v x vs l, insert_before entry_voter a e es (omega (arith, f.numbers.by_voter))) t
 
   insert_tallied : {low : ℕ} {xs vs : List SignedVoteOf} {es : List Entry} → Tallied s era ns low xs vs es → low ≤ voter_of v → obsolete vs v ≡ false
       → Tallied s era ns low xs (insert voter_of v vs) (insert entry_voter a es)

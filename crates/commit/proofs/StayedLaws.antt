@@ -134,24 +134,21 @@ module _ (s : List ℕ) (c : CounterOf) where
   unfolding any_fresh
   put_rest none p rs h l = refl
   put_rest (kept {v = v} {e = e} {xs = xs} {vs = vs} {es = es} f n t) p rs h l =
-      let a = length-append p (v ∷ []) in
-      step_kept p v e (p ++ (v ∷ xs)) xs vs es rs f refl (put_rest t (p ++ (v ∷ [])) rs (omega (arith, top_more voter_of p v)) (omega arith))
+      step_kept p v e (p ++ (v ∷ xs)) xs vs es rs f refl (put_rest t (p ++ (v ∷ [])) rs (omega (arith, top_more voter_of p v)) (omega (arith, length-append p (v ∷ []))))
   put_rest (replaced {x = x} {v = v} {e = e} {xs = xs} {vs = vs} {es = es} f k q o t) p rs h l =
-      let a = length-append p (v ∷ []) in
       let b : top voter_of p ≤ voter_of v = omega arith in
       let u = put_over v p b x xs q in
       step_fresh p v e (p ++ (x ∷ xs)) xs vs es rs (marked s c.era c.nodes f) (tallied_same s c.era c.nodes t)
       (put_fresh v e (p ++ (x ∷ xs)) rs f (not_obsolete v p b (x ∷ xs) o) u.0 ∙ ap (λ (us : List SignedVoteOf). with_committed c us (worked_out us)) u.1)
-      (put_rest t (p ++ (v ∷ [])) (worked_out ((p ++ (v ∷ [])) ++ xs)) (omega (arith, top_more voter_of p v)) (omega arith))
+      (put_rest t (p ++ (v ∷ [])) (worked_out ((p ++ (v ∷ [])) ++ xs)) (omega (arith, top_more voter_of p v)) (omega (arith, length-append p (v ∷ []))))
   put_rest (added {v = v} {e = e} {xs = xs} {vs = vs} {es = es} f k q o t) p rs h l =
-      let a = length-append p (v ∷ []) in
       let b : top voter_of p ≤ voter_of v = omega arith in
       let m = tallied_length s c.era c.nodes t in
       let r : length (p ++ xs) < base.nodes = omega (arith, length-append p xs) in
       let u = put_between v p b xs q r in
       step_fresh p v e (p ++ xs) xs vs es rs (marked s c.era c.nodes f) (tallied_same s c.era c.nodes t)
       (put_fresh v e (p ++ xs) rs f (not_obsolete v p b xs o) u.0 ∙ ap (λ (us : List SignedVoteOf). with_committed c us (worked_out us)) u.1)
-      (put_rest t (p ++ (v ∷ [])) (worked_out ((p ++ (v ∷ [])) ++ xs)) (omega (arith, top_more voter_of p v)) (omega arith))
+      (put_rest t (p ++ (v ∷ [])) (worked_out ((p ++ (v ∷ [])) ++ xs)) (omega (arith, top_more voter_of p v)) (omega (arith, length-append p (v ∷ []))))
 
 -- what was held of the work: the counter before the batch, with the votes that stayed, has the committed votes and the board of the work
 pub put_stayed : (s : List ℕ) (c : CounterOf) (w : WorkOf) (t : Tally) → VotesHeld s (begun_with c) w c.era c.nodes t

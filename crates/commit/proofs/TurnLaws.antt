@@ -2,18 +2,18 @@
 -- Assumes nothing.
 use Prim.Native.Nat.{ℕ, suc, ◌+◌, ◌≤◌, ◌<◌}
 use mathlib.Core.Path.{◌≡◌, refl, sym, ap, ◌∙◌}
-use mathlib.Core.List.{List, [], ◌∷◌, ◌++◌, map, map-append}
+use mathlib.Core.List.{List, [], ◌∷◌, ◌++◌, map}
 use mathlib.Core.Bool.{Bool, true, false, cond, ◌||◌}
 use Rattle.std.specs.List.{list_any}
+use Rattle.std.proofs.lemmas.List.{map_more}
 use Rattle.std.specs.declared.result.Result.TheVariants.{Ok, Err}
 use Rattle.std.specs.declared.option.Option.{Option}
 use Rattle.std.specs.declared.option.Option.TheVariants.{Some, None}
 use Rattle.std.specs.Option.{option_map, unwrap_or}
 use native.Mathlib.Omega.{arith}
-use native.Mathlib.Numerals.{add-one}
 use lib.Dec.{leb, ltb, eqb}
 use lib.ListN.{length, take, drop, get_or, length-take, length-map}
-use lib.Seq.{take_all, take-suc}
+use lib.Seq.{take_all}
 use borrow.Author.Tests.{lt-ltb, ltb-true}
 use Rattle.lists.specs.Lists.{Found, map_found, option_as_found, lookup, insert, has_key, insert_within}
 use Rattle.lists.proofs.ListLaws.{false_true, cond_yes, rest_none}
@@ -82,7 +82,7 @@ kept_next limit i xs z es e b l =
     let x = kept_of (get_or xs i z) in
     cond_yes (es ++ (x ∷ [])) es (lt-ltb (length es) limit (omega (arith, ap length e, length-map (take i xs) kept_of, length-take i xs, l)))
     ∙ ap (λ (ys : List Entry). ys ++ (x ∷ [])) e
-    ∙ sym (ap (map kept_of) (ap (λ (k : ℕ). take k xs) (add-one i) ∙ take-suc xs i z b) ∙ map-append kept_of (take i xs) (get_or xs i z ∷ []))
+    ∙ sym (map_more kept_of xs i z b)
 
 -- behind the last all are there
 pub kept_done : (i : ℕ) (t : SignedVotes) (es : List Entry) → es ≡ map kept_of (take i (held t)) → length (held t) ≤ i → es ≡ map kept_entry (votes_of t)

@@ -6,17 +6,16 @@ use mathlib.Core.List.{List}
 use mathlib.Core.Bool.{Bool, true, false, cond}
 use lib.Dec.{eqb}
 use borrow.Author.Tests.{eqb-true}
-use Rattle.std.specs.declared.option.Option.TheVariants.{Some}
+use Rattle.std.specs.declared.option.Option.TheVariants.{Some, None}
 use Rattle.lists.specs.Lists.{insert_within}
 use Rattle.lists.proofs.ListLaws.{false_true}
-use Rattle.bincode.specs.Read.{value}
 use Rattle.bincode.specs.Sizes.{base}
 use Rattle.pub_key_map.specs.declared.Node.{Node}
 use Rattle.network_info.specs.NetworkInfo.{key_of}
 use Rattle.fault_log.specs.declared.FaultKind.TheVariants.{InvalidCommittedVote}
 use Rattle.votes.specs.declared.VoteHead.{VoteHead}
 use Rattle.votes.specs.VoteHead.{head_of}
-use Rattle.votes.specs.Votes.{SignedVoteOf, read_signed_vote}
+use Rattle.votes.specs.Votes.{SignedVoteOf}
 use Rattle.signed_votes.specs.SignedVotes.{voter_of, num_of}
 use Rattle.vote_counter.specs.VoteCounter.{CounterOf, obsolete, is_key, valid_vote, stored, nothing_new, fault, vote_effect, after_committed, add_committed}
 use Rattle.dynamic_honey_badger.specs.State.{with_counter}
@@ -24,8 +23,9 @@ use Rattle.steps.specs.Steps.{WorkOf, with_state, blame, voted_as, committed_vot
 use Rattle.commit.specs.declared.tally.Entry.{Entry}
 use Rattle.commit.specs.declared.tally.Tally.{Tally}
 use Rattle.commit.specs.Tally.{entries_of, entry_voter, outdated, Begun, Fresh, VotesHeld}
-use Rattle.commit.specs.Faults.{blamed_in, FaultsBy}
-use Rattle.commit.specs.Votes.{good_head, Point, HeldAt}
+use Rattle.commit.specs.declared.Terms.{Terms}
+use Rattle.commit.specs.Terms.{nodes_by}
+use Rattle.commit.specs.Votes.{good_head, VoteCommitted}
 use Rattle.commit.proofs.TallyLaws.{outdated_is}
 use Rattle.commit.proofs.PutLaws.{within_tallied, put_board}
 use Rattle.commit.proofs.StayedLaws.{add_good}
@@ -76,57 +76,51 @@ module _ (s : List ℕ) (era : ℕ) (ns : List Node) (start : Begun) (w : WorkOf
         let p = good_parts era ns (head_of v) g in
         ap (voted_as base proposer w) (add_good base w.state.counter v (known ∙ o) (p.0 ∙ sym h.by_era) (rw h.by_map p.1))
 
--- a vote with a head, held of the work before and after it
-module _ (s : List ℕ) (era : ℕ) (ns : List Node) (start : Begun) (ids₀ kinds₀ : List ℕ) (w : WorkOf) (p : Point) (h : HeldAt s era ns start ids₀ kinds₀ w p)
-    (v : SignedVoteOf) (hd : VoteHead) (same : hd ≡ head_of v) (proposer : ℕ) where
-  number_told : (b : Bool) → outdated (entries_of p.tally) hd.voter hd.num ≡ b → outdated (entries_of p.tally) (voter_of v) (num_of v) ≡ b
-  number_told b = subst (λ (x : VoteHead). outdated (entries_of p.tally) x.voter x.num ≡ b) same
+-- a vote with a head, which stands at a place: one that is old, one that is not good, and a good one
+module _ (t : Terms) (place : ℕ) (h : VoteHead) (tally : Tally) where
+  number_told : (b : Bool) → outdated (entries_of tally) h.voter h.num ≡ b → (v : SignedVoteOf) → h ≡ head_of v → outdated (entries_of tally) (voter_of v) (num_of v) ≡ b
+  number_told b o v e = subst (λ (x : VoteHead). outdated (entries_of tally) x.voter x.num ≡ b) e o
 
-  good_told : (b : Bool) → good_head era ns hd ≡ b → good_head era ns (head_of v) ≡ b
-  good_told b = subst (λ (x : VoteHead). good_head era ns x ≡ b) same
+  good_told : (b : Bool) → good_head t.era (nodes_by t) h ≡ b → (v : SignedVoteOf) → h ≡ head_of v → good_head t.era (nodes_by t) (head_of v) ≡ b
+  good_told b g v e = subst (λ (x : VoteHead). good_head t.era (nodes_by t) x ≡ b) e g
 
-  pub held_old : outdated (entries_of p.tally) hd.voter hd.num ≡ true → HeldAt s era ns start ids₀ kinds₀ (committed_vote base proposer w v) p
-  held_old o = rw (vote_old s era ns start w p.tally h.1 v proposer (number_told true o)) h
+  pub old_vote : outdated (entries_of tally) h.voter h.num ≡ true → VoteCommitted t place h tally tally None
+  old_vote o v c stands same w start proposer held = rw (vote_old t.bytes.now t.era (nodes_by t) start w tally held v proposer (number_told true o v same)) (held, refl)
 
-  module _ (o : outdated (entries_of p.tally) hd.voter hd.num ≡ false) where
-    pub held_bad : good_head era ns hd ≡ false → (n' : ℕ) (ids' kinds' : List ℕ)
-        → FaultsBy (blamed_in base proposer InvalidCommittedVote) p.faults n' p.ids ids' p.kinds kinds'
-        → HeldAt s era ns start ids₀ kinds₀ (committed_vote base proposer w v) (record { tally = p.tally; faults = n'; ids = ids'; kinds = kinds' })
-    held_bad g n' ids' kinds' f =
-        let fs = f w.faults ids₀ kinds₀ (h.0.count, h.0.by_id, h.0.by_kind) in
-        rw (vote_bad s era ns start w p.tally h.1 v proposer (number_told false o) (good_told false g)) (
-          record { count = fs.0; by_id = fs.1; by_kind = fs.2 },
-          record { by_era = h.1.by_era; by_map = h.1.by_map; by_entry = h.1.by_entry; by_board = h.1.by_board; room = h.1.room },
+  module _ (o : outdated (entries_of tally) h.voter h.num ≡ false) where
+    pub bad_vote : good_head t.era (nodes_by t) h ≡ false → VoteCommitted t place h tally tally (Some InvalidCommittedVote)
+    bad_vote g v c stands same w start proposer held =
+        rw (vote_bad t.bytes.now t.era (nodes_by t) start w tally held v proposer (number_told false o v same) (good_told false g v same)) (
+          record { by_era = held.by_era; by_map = held.by_map; by_entry = held.by_entry; by_board = held.by_board; room = held.room },
+          refl,
         )
 
-    module _ (g : good_head era ns hd ≡ true) (place c : ℕ) (stands : read_signed_vote base s place ≡ value v c) where
-      abbrev put : Entry
-      put = record { voter = hd.voter; num = hd.num; place = Some place }
+    abbrev put : Entry
+    put = record { voter = h.voter; num = h.num; place = Some place }
 
-      fresh : Fresh s era ns v put
-      fresh =
-          let k = good_parts era ns (head_of v) (good_told true g) in
+    pub good_vote : good_head t.era (nodes_by t) h ≡ true → (tally' : Tally) → entries_of tally' ≡ insert_within entry_voter base.nodes put (entries_of tally)
+        → VoteCommitted t place h tally tally' None
+    good_vote g tally' e v c stands same w start proposer held =
+        let n = number_told false o v same in
+        let k = good_told true g v same in
+        let parts = good_parts t.era (nodes_by t) (head_of v) k in
+        let fresh : Fresh t.bytes.now t.era (nodes_by t) v put =
+        record {
+          numbers = record { by_voter = ap (λ (x : VoteHead). x.voter) same; by_num = ap (λ (x : VoteHead). x.num) same };
+          place = place;
+          placed = refl;
+          behind = c;
+          stands = stands;
+          of_era = parts.0;
+          signed = parts.1;
+        } in
+        rw (vote_good t.bytes.now t.era (nodes_by t) start w tally held v proposer n k) (
           record {
-            numbers = record { by_voter = ap (λ (x : VoteHead). x.voter) same; by_num = ap (λ (x : VoteHead). x.num) same };
-            place = place;
-            placed = refl;
-            behind = c;
-            stands = stands;
-            of_era = k.0;
-            signed = k.1;
-          }
-
-      pub held_good : (t' : Tally) → entries_of t' ≡ insert_within entry_voter base.nodes put (entries_of p.tally)
-          → HeldAt s era ns start ids₀ kinds₀ (committed_vote base proposer w v) (record { tally = t'; faults = p.faults; ids = p.ids; kinds = p.kinds })
-      held_good t' e =
-          let n = number_told false o in
-          rw (vote_good s era ns start w p.tally h.1 v proposer n (good_told true g)) (
-            record { count = h.0.count; by_id = h.0.by_id; by_kind = h.0.by_kind },
-            record {
-              by_era = h.1.by_era;
-              by_map = h.1.by_map;
-              by_entry = rw e (within_tallied s era ns v put fresh base.nodes h.1.by_entry (known s era ns start w p.tally h.1 v proposer ∙ n));
-              by_board = rw e (put_board s era ns v put fresh base.nodes h.1.by_entry w.state.counter.board start.board h.1.by_board);
-              room = rw e (within_bound base.nodes put (entries_of p.tally) h.1.room);
-            },
-          )
+            by_era = held.by_era;
+            by_map = held.by_map;
+            by_entry = rw e (within_tallied t.bytes.now t.era (nodes_by t) v put fresh base.nodes held.by_entry (known t.bytes.now t.era (nodes_by t) start w tally held v proposer ∙ n));
+            by_board = rw e (put_board t.bytes.now t.era (nodes_by t) v put fresh base.nodes held.by_entry w.state.counter.board start.board held.by_board);
+            room = rw e (within_bound base.nodes put (entries_of tally) held.room);
+          },
+          refl,
+        )

@@ -1,23 +1,26 @@
 // dynamic_honey_badger.rs, `process_output`, its loop over contributions: votes and key messages of a batch, each read again where it stands and handled.
 #![tactic(auto)]
 
-ghost use Rattle.std.specs.Prelude.{◌≡◌, [], ◌+◌, ◌≤◌, length};
+ghost use Rattle.std.specs.Prelude.{◌≡◌, []};
 ghost use Rattle.bincode.specs.Sizes.{base};
-ghost use Rattle.bincode.specs.Stands.{Bytes};
-ghost use Rattle.pub_key_map.specs.PubKeyMap.{nodes_of};
+ghost use Rattle.fault_log.specs.FaultLog.{faults_of};
 ghost use Rattle.key_gen_state.specs.KeyGenState as running;
 ghost use Rattle.internal_contrib.specs.Index.{contribs_in};
+ghost use Rattle.commit.specs.Arisen.{acks_of, acks_told, faults_told, nothing_arisen};
 ghost use Rattle.commit.specs.Batch.{BatchCommitted};
+ghost use Rattle.commit.specs.Terms.{nodes_by};
+ghost use Rattle.commit.specs.Told.{said_told};
 
-use crate::lent::{Acks, Faults};
-use crate::messages::commit_messages;
+use crate::messages::{MessageTold, commit_messages};
 use crate::tally::Tally;
 use crate::voting::commit_votes;
+use array_list::ArrayList;
+use due::DueList;
+use fault_log::{Fault, FaultLog};
 use internal_contrib::BatchIndex;
 use key_gen_state::KeyGenState;
 use pub_key_map::PubKeyMap;
 
-pub mod lent;
 pub mod messages;
 pub mod tally;
 pub mod voting;
@@ -31,21 +34,45 @@ pub struct Terms<'a> {
     pub map: PubKeyMap,
 }
 
-// What a batch came to: committed votes as entries, key generation, how many verdicts were used, and how many faults and acks the lists hold.
+// What a batch brings up, each in order of arising: faults, and the indices of the proposers that acks are due for.
+#[derive(Clone, Copy)]
+pub struct Arisen {
+    pub faults: FaultLog,
+    pub acks: ArrayList<usize, { DueList::LIMIT }>,
+}
+
+// What a batch came to: committed votes as entries, key generation, and how many verdicts were used.
 #[derive(Clone, Copy)]
 pub struct Committed {
     pub tally: Tally,
     pub state: Option<KeyGenState>,
     pub judged: usize,
-    pub faults: usize,
-    pub due: usize,
 }
 
-// Where items start whose count of eight bytes stands at a place within the bytes; each byte is one.
-fn behind_count(s: &[u8], place: usize) -> usize
-    ensures { (place ≤ length s.now → result ≡ place + 8) × Bytes s.now }
-{
-    if place <= s.len() { place + 8 } else { place }
+impl Arisen {
+    pub fn empty() -> Self
+        ensures { result ≡ nothing_arisen }
+    {
+        Arisen {
+            faults: FaultLog::empty(),
+            acks: ArrayList::empty(0),
+        }
+    }
+
+    // What a message's end adds: a fault, or an ack that is due.
+    pub(crate) fn tell(&mut self, told: MessageTold, proposer: u32, signer: u32)
+        ensures faults { faults_of self.new.faults ≡ faults_told base proposer signer (said_told told) (faults_of self.old.faults) }
+        ensures acks { acks_of self.new ≡ acks_told base (said_told told) (acks_of self.old) }
+    {
+        match told {
+            MessageTold::Quiet => {}
+            MessageTold::Owed(i) => {
+                self.acks.push(i);
+            }
+            MessageTold::BlamedProposer(k) => self.faults.append(Fault::new(proposer, k)),
+            MessageTold::BlamedSigner(k) => self.faults.append(Fault::new(signer, k)),
+        }
+    }
 }
 
 // Step 2: the contributions that an index notes, ids ascending: of each its votes, then its messages, though messages are encoded first.
@@ -54,31 +81,24 @@ pub fn commit_batch(
     index: BatchIndex,
     tally: Tally,
     state: Option<KeyGenState>,
-    ids: &mut [u32],
-    kinds: &mut [u8],
-    indices: &mut [u64],
+    arisen: &mut Arisen,
 ) -> Committed
-    ensures { BatchCommitted terms.now.bytes.now terms.now.era (nodes_of terms.now.map) terms.now.verdicts.now tally (running.state_of state) index result
-        (record { ids = ids.entry.now; kinds = kinds.old; indices = indices.old })
-        (record { ids = ids.exit.now; kinds = kinds.new; indices = indices.new })
-        × (contribs_in index ≡ [] → result.state ≡ state)
-        × (result.faults ≤ base.faults) × (result.due ≤ base.due) }
+    ensures { BatchCommitted terms.now.bytes.now terms.now.era (nodes_by terms.now) terms.now.verdicts.now tally (running.state_of state) index result arisen.new
+        × (contribs_in index ≡ [] → result.state ≡ state) }
 {
     let mut done = tally;
     let mut key_gen = state;
     let mut judged: usize = 0;
-    let mut faults = Faults { ids, kinds, n: 0 };
-    let mut acks = Acks { indices, n: 0 };
+    arisen.faults.faults.clear();
+    arisen.acks.clear();
     let contribs = index.contribs.as_slice();
     for c in contribs {
-        commit_votes(terms, c, &mut done, &mut faults);
-        judged = commit_messages(terms, c, judged, &mut key_gen, &mut faults, &mut acks);
+        commit_votes(terms, c, &mut done, &mut arisen.faults);
+        judged = commit_messages(terms, c, judged, &mut key_gen, arisen);
     }
     Committed {
         tally: done,
         state: key_gen,
         judged,
-        faults: faults.n,
-        due: acks.n,
     }
 }

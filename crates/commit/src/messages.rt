@@ -1,7 +1,6 @@
 // dynamic_honey_badger.rs, `process_output`: the key messages of one contribution, read again and handled.
-ghost use Rattle.std.specs.Prelude.{◌≡◌, ◌+◌, ◌≤◌, drop, length};
+ghost use Rattle.std.specs.Prelude.{◌≡◌, drop};
 ghost use Rattle.lists.specs.Lists.{found, option_as_found};
-ghost use Rattle.bincode.specs.Sizes.{base};
 ghost use Rattle.pub_key_map.specs.PubKeyMap.{nodes_of};
 ghost use Rattle.key_gen.specs.KeyGen as gen;
 ghost use Rattle.key_gen_state.specs.KeyGenState.{state_of, running_of};
@@ -10,10 +9,10 @@ ghost use Rattle.key_gen_message.specs.Head.{head_of};
 ghost use Rattle.dynamic_honey_badger.specs.State.{candidate_nodes};
 ghost use Rattle.steps.specs.Steps.{told_by, first_verdict, other_verdicts, done_as, by_key_gen, message_done};
 ghost use Rattle.commit.specs.Told.{said_told, unexpected_by};
+ghost use Rattle.commit.specs.Terms.{nodes_by};
 ghost use Rattle.commit.specs.Handled.{MessagesCommitted};
 
-use crate::lent::{Acks, Faults};
-use crate::{Terms, behind_count};
+use crate::{Arisen, Terms};
 use fault_log::FaultKind;
 use internal_contrib::Contrib;
 use key_gen::KeyOutcome;
@@ -48,10 +47,7 @@ fn verdict_used(verdicts: &[u8], i: usize) -> usize
 fn candidate(state: &Option<KeyGenState>) -> Option<PubKeyMap>
     ensures { option_as_found nodes_of result ≡ candidate_nodes (state_of state.now) }
 {
-    match state {
-        Some(running) => Some(running.key_gen.pub_keys),
-        None => None,
-    }
+    state.as_ref().map(|running| running.key_gen.pub_keys)
 }
 
 // The signer's fault where no key message is expected.
@@ -98,7 +94,7 @@ fn handle_message(
     verdict: u8,
 ) -> MessageTold
     ensures { (m : SignedKeyGenMsgOf) → h ≡ head_of m → done_as (state_of state.new) (said_told result)
-        ≡ message_done terms.now.era (nodes_of terms.now.map) (state_of state.old) m verdict }
+        ≡ message_done terms.now.era (nodes_by terms.now) (state_of state.old) m verdict }
 {
     if h.era != terms.era {
         return MessageTold::BlamedProposer(FaultKind::InvalidKeyGenMessageEra);
@@ -118,29 +114,19 @@ pub(crate) fn commit_messages(
     c: &Contrib,
     judged: usize,
     state: &mut Option<KeyGenState>,
-    faults: &mut Faults<'_>,
-    acks: &mut Acks<'_>,
+    arisen: &mut Arisen,
 ) -> usize
-    requires { (faults.old.n ≤ base.faults) × (acks.old.n ≤ base.due) }
-    ensures same_ids { faults.new.ids.ghost_name ≡ faults.old.ids.ghost_name }
-    ensures same_kinds { faults.new.kinds.ghost_name ≡ faults.old.kinds.ghost_name }
-    ensures same_indices { acks.new.indices.ghost_name ≡ acks.old.indices.ghost_name }
-    ensures committed { c.now.messages ≤ length terms.now.bytes.now → MessagesCommitted terms.now.era (nodes_of terms.now.map) terms.now.verdicts.now terms.now.bytes.now c.now.message_count (c.now.messages + 8) c.now.id
-        (record { key_gen = state_of state.old; judged = judged; faults = faults.old.n; ids = faults.old.ids.now; kinds = faults.old.kinds.now; due = acks.old.n; indices = acks.old.indices.now })
-        (record { key_gen = state_of state.new; judged = result; faults = faults.new.n; ids = faults.new.ids.now; kinds = faults.new.kinds.now; due = acks.new.n; indices = acks.new.indices.now }) }
-    ensures few_faults { faults.new.n ≤ base.faults }
-    ensures few_due { acks.new.n ≤ base.due }
+    ensures { MessagesCommitted terms.now c.now state.old judged arisen.old state.new result arisen.new }
 {
     let mut used = judged;
-    let mut at = behind_count(terms.bytes, c.messages);
-    for _ in 0..c.message_count {
+    let mut at = c.messages.first_item(terms.bytes);
+    for _ in 0..c.messages.count {
         let Ok((h, next)) = key_gen_message::read_head(terms.bytes, at) else {
             return used;
         };
         let told = handle_message(terms, state, h, verdict_at(terms.verdicts, used));
         used = verdict_used(terms.verdicts, used);
-        faults.tell(told, c.id, h.id);
-        acks.tell(told);
+        arisen.tell(told, c.id, h.id);
         at = next;
     }
     used

@@ -1,81 +1,60 @@
 // dynamic_honey_badger.rs, `process_output`: the votes of one contribution, read again by their heads, and behind a batch the votes that stayed, put into the counter.
-ghost use Rattle.std.specs.Prelude.{◌≡◌, false, ◌+◌, ◌≤◌, length};
+ghost use Rattle.std.specs.Prelude.{◌≡◌};
 ghost use Rattle.bincode.specs.Items.{foldl};
 ghost use Rattle.bincode.specs.Sizes.{base};
 ghost use Rattle.bincode.specs.Stands.{Bytes};
-ghost use Rattle.pub_key_map.specs.PubKeyMap.{nodes_of};
 ghost use Rattle.vote_counter.specs.VoteCounter.{counter_of};
-ghost use Rattle.commit.specs.Tally.{entries_of, outdated};
+ghost use Rattle.commit.specs.Tally.{entries_of};
+ghost use Rattle.commit.specs.Terms.{nodes_by};
 ghost use Rattle.commit.specs.Votes.{good_head, VoteCommitted, VotesCommitted};
 ghost use Rattle.commit.specs.Put.{put_in};
 
-use crate::lent::Faults;
+use crate::Terms;
 use crate::tally::{Entry, Tally};
-use crate::{Terms, behind_count};
-use fault_log::FaultKind;
+use bincode::Decoded;
+use fault_log::{Fault, FaultKind, FaultLog};
 use internal_contrib::Contrib;
 use vote_counter::VoteCounter;
-use votes::VoteHead;
+use votes::{SignedVote, VoteHead};
 
 // Whether a vote is of the era and signed under its voter's key of the map.
 #[tactic(auto, unfolding(crate::specs::Votes::good_head))]
 fn is_good(terms: &Terms<'_>, h: VoteHead) -> bool
-    ensures { result ≡ good_head terms.now.era (nodes_of terms.now.map) h }
+    ensures { result ≡ good_head terms.now.era (nodes_by terms.now) h }
 {
-    h.era == terms.era && dynamic_honey_badger::is_key(terms.map, h.voter, h.sig)
+    h.era == terms.era && vote_counter::is_key(terms.map, h.voter, h.sig)
 }
 
-// Step 3: a vote of a proposer's contribution that is not old, by its head; its bytes stand at a place.
-fn commit_vote(
-    terms: &Terms<'_>,
-    h: VoteHead,
-    place: usize,
-    proposer: u32,
-    tally: &mut Tally,
-    faults: &mut Faults<'_>,
-)
-    requires { (faults.old.n ≤ base.faults) × (outdated (entries_of tally.old) h.voter h.num ≡ false) }
-    ensures same_ids { faults.new.ids.ghost_name ≡ faults.old.ids.ghost_name }
-    ensures same_kinds { faults.new.kinds.ghost_name ≡ faults.old.kinds.ghost_name }
-    ensures committed { VoteCommitted terms.now.era (nodes_of terms.now.map) place h proposer
-        (record { tally = tally.old; faults = faults.old.n; ids = faults.old.ids.now; kinds = faults.old.kinds.now })
-        (record { tally = tally.new; faults = faults.new.n; ids = faults.new.ids.now; kinds = faults.new.kinds.now }) }
-    ensures few { faults.new.n ≤ base.faults }
+// Step 3: a vote by its head, whose bytes stand at a place: an old one changes nothing, and one that is not good is a fault of its proposer.
+fn commit_vote(terms: &Terms<'_>, h: VoteHead, place: usize, tally: &mut Tally) -> Option<FaultKind>
+    ensures { VoteCommitted terms.now place h tally.old tally.new result }
 {
-    if is_good(terms, h) {
-        tally.entries.insert(Entry {
-            voter: h.voter,
-            num: h.num,
-            place: Some(place),
-        });
-    } else {
-        faults.put(proposer, FaultKind::InvalidCommittedVote);
+    if tally.is_obsolete(h.voter, h.num) {
+        return None;
     }
+    if !is_good(terms, h) {
+        return Some(FaultKind::InvalidCommittedVote);
+    }
+    tally.entries.insert(Entry {
+        voter: h.voter,
+        num: h.num,
+        place: Some(place),
+    });
+    None
 }
 
 // The votes of a contribution of a batch, whose bytes are bytes.
-pub(crate) fn commit_votes(
-    terms: &Terms<'_>,
-    c: &Contrib,
-    tally: &mut Tally,
-    faults: &mut Faults<'_>,
-)
-    requires { faults.old.n ≤ base.faults }
-    ensures same_ids { faults.new.ids.ghost_name ≡ faults.old.ids.ghost_name }
-    ensures same_kinds { faults.new.kinds.ghost_name ≡ faults.old.kinds.ghost_name }
-    ensures committed { c.now.votes ≤ length terms.now.bytes.now → VotesCommitted terms.now.era (nodes_of terms.now.map) terms.now.bytes.now c.now.vote_count (c.now.votes + 8) c.now.id
-        (record { tally = tally.old; faults = faults.old.n; ids = faults.old.ids.now; kinds = faults.old.kinds.now })
-        (record { tally = tally.new; faults = faults.new.n; ids = faults.new.ids.now; kinds = faults.new.kinds.now }) }
+pub(crate) fn commit_votes(terms: &Terms<'_>, c: &Contrib, tally: &mut Tally, faults: &mut FaultLog)
+    ensures committed { VotesCommitted terms.now c.now tally.old faults.old tally.new faults.new }
     ensures bytes { Bytes terms.now.bytes.now }
-    ensures few { faults.new.n ≤ base.faults }
 {
-    let mut at = behind_count(terms.bytes, c.votes);
-    for _ in 0..c.vote_count {
+    let mut at = c.votes.first_item(terms.bytes);
+    for _ in 0..c.votes.count {
         let Ok((h, next)) = votes::read_vote_head(terms.bytes, at) else {
             return;
         };
-        if !tally.is_obsolete(h.voter, h.num) {
-            commit_vote(terms, h, at, c.id, tally, faults);
+        if let Some(kind) = commit_vote(terms, h, at, tally) {
+            faults.append(Fault::new(c.id, kind));
         }
         at = next;
     }
@@ -92,7 +71,7 @@ pub fn put_votes(counter: VoteCounter, s: &[u8], t: Tally) -> VoteCounter
     let mut taken = false;
     for e in t.entries.as_slice() {
         if let Some(place) = e.place {
-            if let Ok((x, _)) = votes::read_signed_vote(s, place) {
+            if let Ok((x, _)) = SignedVote::read(s, place) {
                 let a = vote_counter::commit_vote(votes, era, map, x);
                 votes = a.votes;
                 taken = taken | a.taken;

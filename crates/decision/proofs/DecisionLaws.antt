@@ -13,10 +13,8 @@ use Rattle.pub_key_map.specs.declared.Node.{Node}
 use Rattle.pub_key_map.specs.declared.PubKeyMap.{PubKeyMap}
 use Rattle.pub_key_map.specs.PubKeyMap.{nodes_of}
 use Rattle.honey_badger.specs.declared.EncryptionSchedule.{EncryptionSchedule}
-use Rattle.change.specs.declared.Change.{Change}
-use Rattle.change.specs.declared.Change.TheVariants.{NodeChange, EncryptionSchedule as ScheduleChange}
 use Rattle.params.specs.declared.Params.{Params}
-use Rattle.change.specs.Change.{ChangeOf, change_of, node_change, encryption_schedule, ChangeStateOf, in_progress, complete}
+use Rattle.change.specs.Change.{ChangeOf, node_change, encryption_schedule, ChangeStateOf, in_progress, complete}
 use Rattle.due.specs.declared.DueItem.{DueItem}
 use Rattle.vote_counter.specs.declared.VoteCounter.{VoteCounter}
 use Rattle.vote_counter.specs.VoteCounter.{compute_winner, counter_of, new_held}

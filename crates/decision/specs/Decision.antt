@@ -22,6 +22,7 @@ use Rattle.recipe.specs.declared.Recipe.{Recipe}
 use Rattle.recipe.specs.Recipe.{RecipeOf, recipe, recipe_of}
 use Rattle.joining.specs.Starting.{is_empty}
 use Rattle.dynamic_honey_badger.specs.State.{StateOf, Stamp, nodes_in, with_key_gen, with_params, new_era, key_gen_for, part_due, candidate_nodes}
+use Rattle.decision.specs.declared.Parts.{Parts}
 use Rattle.decision.specs.declared.Decision.{Decision}
 
 -- the state after the batch, the reported change, the due items that arise here, and the recipe where key generation completed
@@ -93,28 +94,22 @@ said_recipe r = option_as_found recipe_of r
 abbrev pub parts_of : Params → VoteCounter → Option KeyGenState → List SignedKeyGenMsgOf → Found Stamp → StateOf
 parts_of p c k st l = record { counter = counter_of c; params = p; key_gen = state_of k; store = st; last = l }
 
--- where an era begins, the store loses what is of lower ones
-abbrev pub decided_of : ℕ → List SignedKeyGenMsgOf → Found Stamp → Decision → Decided
-decided_of era st l d =
+abbrev pub of_parts : Parts → List SignedKeyGenMsgOf → Found Stamp → StateOf
+of_parts p st l = parts_of p.params p.vote_counter p.key_gen_state st l
+
+-- with the parts as they are left; where an era begins, the store loses what is of lower ones
+abbrev pub decided_of : ℕ → List SignedKeyGenMsgOf → Found Stamp → Parts → Decision → Decided
+decided_of era st l p d =
     record {
-      state = parts_of d.params d.vote_counter d.key_gen_state (cond d.restarted (from_era era st) st) l;
+      state = of_parts p (cond d.restarted (from_era era st) st) l;
       change = progress_of d.change;
       due = cond d.part_due (record { kind = Part; era = era } ∷ []) [];
       recipe = said_recipe d.recipe;
     }
 
 -- the struct of a decision without a recipe
-abbrev pub without_recipe : Params → VoteCounter → Option KeyGenState → Bool → ChangeState → Bool → Decision
-without_recipe p c k restarted change due =
-    record {
-      params = p;
-      vote_counter = c;
-      key_gen_state = k;
-      restarted = restarted;
-      change = change;
-      part_due = due;
-      recipe = None;
-    }
+abbrev pub without_recipe : Bool → ChangeState → Bool → Decision
+without_recipe restarted change due = record { restarted = restarted; change = change; part_due = due; recipe = None }
 
 -- row 7: the winning map is empty
 abbrev pub is_empty_map : Found ChangeOf → Bool

@@ -1,5 +1,5 @@
 // dynamic_honey_badger.rs, `process_output`, behind its loop: a ready key generation, else the winner, else nothing.
-// All but the message store is handed over and back; the store is filtered by the caller where an era begins.
+// What it decides on is changed in place; the message store is filtered by the caller where an era begins.
 #![tactic(auto)]
 
 ghost use Rattle.std.specs.Prelude.{◌≡◌, List, Some};
@@ -10,7 +10,7 @@ ghost use Rattle.vote_counter.specs.VoteCounter.{counter_of, compute_winner};
 ghost use Rattle.key_gen_message.specs.KeyGenMessage.{SignedKeyGenMsgOf};
 ghost use Rattle.key_gen_state.specs.KeyGenState as running;
 ghost use Rattle.dynamic_honey_badger.specs.State.{Stamp, candidate_nodes};
-ghost use Rattle.decision.specs.Decision.{parts_of, decided_of, elected_of, completed_by, is_candidate};
+ghost use Rattle.decision.specs.Decision.{of_parts, decided_of, elected_of, completed_by, is_candidate};
 ghost use Rattle.decision.specs.Decision.{map_wins, schedule_wins, elected_by, decide_by, is_empty_map};
 
 use change::{Change, ChangeState};
@@ -22,13 +22,17 @@ use pub_key_map::PubKeyMap;
 use recipe::Recipe;
 use vote_counter::VoteCounter;
 
-// A node's state after a batch but for the store, and whether an era begins, so that the store loses lower eras; the reported change, whether a part is due, and the
-// recipe where key generation completed.
+// What steps 6 to 8 go by, and what they change: a node's state but for its store and its last report.
 #[derive(Clone, Copy)]
-pub struct Decision {
+pub struct Parts {
     pub params: Params,
     pub vote_counter: VoteCounter,
     pub key_gen_state: Option<KeyGenState>,
+}
+
+// Whether an era begins, so that the store loses lower eras; the reported change, whether a part is due, and the recipe where key generation completed.
+#[derive(Clone, Copy)]
+pub struct Decision {
     pub restarted: bool,
     pub change: ChangeState,
     pub part_due: bool,
@@ -36,16 +40,14 @@ pub struct Decision {
 }
 
 // The winning change, or that there is none; looked for only where more than f votes are committed.
-pub fn elect(counter: VoteCounter) -> Option<Change>
-    ensures { elected_of result ≡ compute_winner (counter_of counter) }
+pub fn elect(counter: &VoteCounter) -> Option<Change>
+    ensures { elected_of result ≡ compute_winner (counter_of counter.now) }
 {
-    let map = counter.pub_keys;
-    let committed = counter.committed;
-    if committed.len() <= network_info::num_faulty(map) {
+    if counter.committed.len() <= network_info::num_faulty(counter.pub_keys) {
         return None;
     }
     let i = counter.compute_winner()?;
-    let change = committed.votes.items[i].vote.change;
+    let change = counter.committed.votes.items[i].vote.change;
     Some(change)
 }
 
@@ -60,15 +62,14 @@ pub fn is_empty_map(e: Option<Change>) -> bool
 }
 
 // Step 6: the candidate map takes effect, key generation ends, a new era begins.
-fn complete(params: Params, counter: VoteCounter, ended: KeyGenState, era: u64) -> Decision
-    ensures { (st : List SignedKeyGenMsgOf) (l : Found Stamp) → decided_of era st l result ≡ completed_by era (parts_of params counter (Some ended) st l) (found (running.running_of ended)) }
+fn complete(parts: &mut Parts, ended: KeyGenState, era: u64) -> Decision
+    ensures { (st : List SignedKeyGenMsgOf) (l : Found Stamp) → decided_of era st l parts.new result ≡ completed_by era (of_parts parts.old st l) (found (running.running_of ended)) }
 {
     let key_gen = ended.key_gen;
     let map = key_gen.pub_keys;
+    parts.vote_counter = parts.vote_counter.new_era(map, era);
+    parts.key_gen_state = None;
     Decision {
-        params,
-        vote_counter: VoteCounter::new(counter.our_id, counter.secret_key, map, era),
-        key_gen_state: None,
         restarted: true,
         change: ChangeState::complete(Change::node_change(map)),
         part_due: false,
@@ -77,68 +78,47 @@ fn complete(params: Params, counter: VoteCounter, ended: KeyGenState, era: u64) 
 }
 
 // Whether key generation runs for just this map.
+#[tactic(auto, using(pub_key_map::proofs::MapLaws::map_eq))]
 fn is_candidate(state: Option<KeyGenState>, map: PubKeyMap) -> bool
     ensures { result ≡ is_candidate (candidate_nodes (running.state_of state)) (nodes_of map) }
 {
-    match state {
-        Some(running) => running.key_gen.pub_keys.same(map),
-        None => false,
-    }
+    state.is_some_and(|s| s.key_gen.pub_keys == map)
 }
 
 // Step 7 where a map wins: the candidate map again restarts nothing; another one begins an era and a fresh key generation.
-fn map_wins(
-    params: Params,
-    counter: VoteCounter,
-    state: Option<KeyGenState>,
-    era: u64,
-    map: PubKeyMap,
-) -> Decision
-    ensures { (st : List SignedKeyGenMsgOf) (l : Found Stamp) → decided_of era st l result ≡ map_wins base era (parts_of params counter state st l) (nodes_of map) }
+fn map_wins(parts: &mut Parts, era: u64, map: PubKeyMap) -> Decision
+    ensures { (st : List SignedKeyGenMsgOf) (l : Found Stamp) → decided_of era st l parts.new result ≡ map_wins base era (of_parts parts.old st l) (nodes_of map) }
 {
     let change = ChangeState::in_progress(Change::node_change(map));
-    if is_candidate(state, map) {
+    if is_candidate(parts.key_gen_state, map) {
         return Decision {
-            params,
-            vote_counter: counter,
-            key_gen_state: state,
             restarted: false,
             change,
             part_due: false,
             recipe: None,
         };
     }
-    let current = counter.pub_keys;
-    let begun = KeyGen::new(counter.our_id, map);
+    let our_id = parts.vote_counter.our_id;
+    let current = parts.vote_counter.pub_keys;
+    let begun = KeyGen::new(our_id, map);
+    parts.vote_counter = parts.vote_counter.new_era(current, era);
+    parts.key_gen_state = Some(KeyGenState::new(begun));
     Decision {
-        params,
-        vote_counter: VoteCounter::new(counter.our_id, counter.secret_key, current, era),
-        key_gen_state: Some(KeyGenState::new(begun)),
         restarted: true,
         change,
-        part_due: network_info::is_member(map, counter.our_id),
+        part_due: network_info::is_member(map, our_id),
         recipe: None,
     }
 }
 
 // Step 7 where a schedule wins: it is put into the parameters, an era begins, key generation is kept.
-fn schedule_wins(
-    params: Params,
-    counter: VoteCounter,
-    state: Option<KeyGenState>,
-    era: u64,
-    schedule: EncryptionSchedule,
-) -> Decision
-    ensures { (st : List SignedKeyGenMsgOf) (l : Found Stamp) → decided_of era st l result ≡ schedule_wins era (parts_of params counter state st l) schedule }
+fn schedule_wins(parts: &mut Parts, era: u64, schedule: EncryptionSchedule) -> Decision
+    ensures { (st : List SignedKeyGenMsgOf) (l : Found Stamp) → decided_of era st l parts.new result ≡ schedule_wins era (of_parts parts.old st l) schedule }
 {
-    let map = counter.pub_keys;
+    let map = parts.vote_counter.pub_keys;
+    parts.params.encryption_schedule = schedule;
+    parts.vote_counter = parts.vote_counter.new_era(map, era);
     Decision {
-        params: Params {
-            encryption_schedule: schedule,
-            ..params
-        },
-        vote_counter: VoteCounter::new(counter.our_id, counter.secret_key, map, era),
-        key_gen_state: state,
         restarted: true,
         change: ChangeState::complete(Change::schedule(schedule)),
         part_due: false,
@@ -147,24 +127,13 @@ fn schedule_wins(
 }
 
 // Steps 7 and 8: a change that has won is made; without one all stays as it is.
-fn elected(
-    params: Params,
-    counter: VoteCounter,
-    state: Option<KeyGenState>,
-    era: u64,
-    e: Option<Change>,
-) -> Decision
-    ensures { (st : List SignedKeyGenMsgOf) (l : Found Stamp) → decided_of era st l result ≡ elected_by base era (parts_of params counter state st l) (elected_of e) }
+fn elected(parts: &mut Parts, era: u64, e: Option<Change>) -> Decision
+    ensures { (st : List SignedKeyGenMsgOf) (l : Found Stamp) → decided_of era st l parts.new result ≡ elected_by base era (of_parts parts.old st l) (elected_of e) }
 {
     match e {
-        Some(Change::NodeChange(map)) => map_wins(params, counter, state, era, map),
-        Some(Change::EncryptionSchedule(schedule)) => schedule_wins(
-            params, counter, state, era, schedule,
-        ),
+        Some(Change::NodeChange(map)) => map_wins(parts, era, map),
+        Some(Change::EncryptionSchedule(schedule)) => schedule_wins(parts, era, schedule),
         None => Decision {
-            params,
-            vote_counter: counter,
-            key_gen_state: state,
             restarted: false,
             change: ChangeState::none(),
             part_due: false,
@@ -174,17 +143,11 @@ fn elected(
 }
 
 // Steps 6 to 8, with the era that a change begins and the winner that `elect` found.
-pub fn decide(
-    params: Params,
-    counter: VoteCounter,
-    state: Option<KeyGenState>,
-    era: u64,
-    e: Option<Change>,
-) -> Decision
-    ensures { (st : List SignedKeyGenMsgOf) (l : Found Stamp) → decided_of era st l result ≡ decide_by base era (parts_of params counter state st l) (elected_of e) }
+pub fn decide(parts: &mut Parts, era: u64, e: Option<Change>) -> Decision
+    ensures { (st : List SignedKeyGenMsgOf) (l : Found Stamp) → decided_of era st l parts.new result ≡ decide_by base era (of_parts parts.old st l) (elected_of e) }
 {
-    match state {
-        Some(running) if running.key_gen.is_ready() => complete(params, counter, running, era),
-        _ => elected(params, counter, state, era, e),
+    match parts.key_gen_state {
+        Some(running) if running.key_gen.is_ready() => complete(parts, running, era),
+        _ => elected(parts, era, e),
     }
 }

@@ -1,17 +1,18 @@
 // Answers that are worked out and not only read: the number of faulty nodes, the winner of votes, and how far a key generation is.
 use crate::text::{Failure, Hex};
 use crate::values::encoded;
-use bincode::Refusal;
+use bincode::{Decoded, Refusal};
 use key_gen::{KeyGen, Proposal};
 use pub_key_map::PubKeyMap;
 use vote_counter::VoteCounter;
+use votes::SignedVote;
 
 // A row of flags: whether a node's part is recorded, and who acknowledged it.
 const ROW: usize = PubKeyMap::LIMIT + 1;
 
 // Eight bytes of a number of nodes: how many of them may be faulty.
 pub(crate) fn faulty(b: &[u8], out: &mut String) -> Result<(), Failure> {
-    let Ok((n, _)) = bincode::all_read(b, bincode::read_u64(b, 0)) else {
+    let Ok((n, _)) = bincode::read_whole::<u64>(b) else {
         return Err(Failure::BadLine);
     };
     writeln!(out, "ok {}", util::max_faulty(n as usize))?;
@@ -26,7 +27,7 @@ fn commit_votes(map: PubKeyMap, b: &[u8], from: usize) -> Result<VoteCounter, Re
         if b.len() <= at {
             break;
         }
-        let (vote, end) = votes::read_signed_vote(b, at)?;
+        let (vote, end) = SignedVote::read(b, at)?;
         let added = counter.add_committed_vote(vote);
         counter = added.counter;
         at = end;
@@ -36,31 +37,27 @@ fn commit_votes(map: PubKeyMap, b: &[u8], from: usize) -> Result<VoteCounter, Re
 
 // A map, and signed votes behind it: the change that wins in era 0, or none.
 pub(crate) fn winner(b: &[u8], out: &mut String) -> Result<(), Failure> {
-    let (map, at) = pub_key_map::read_map(b, 0)?;
+    let (map, at) = PubKeyMap::read(b, 0)?;
     let counter = commit_votes(map, b, at)?;
     let committed = counter.committed;
     match counter.compute_winner().and_then(|i| committed.votes.at(i)) {
         Some(winner) => {
-            let change = encoded(winner.vote.change, change::write_change);
-            writeln!(out, "ok {}", Hex(change.as_slice()))?;
+            let change = encoded(*out.allocator(), winner.vote.change)?;
+            writeln!(out, "ok {}", Hex(&change))?;
         }
         None => writeln!(out, "no")?,
     }
     Ok(())
 }
 
-// The flag at a place; there is none past the end.
-fn flag(b: &[u8], at: usize) -> bool {
-    b.get(at) == Some(&1)
-}
-
-// The row of a node; none where its part is not recorded.
+// What a row of flags records of a node; none where its part is not recorded.
 fn proposal(row: &[u8]) -> Option<Proposal> {
+    let (recorded, acks) = row.split_first()?;
     let mut p = Proposal::new(0);
-    for j in 0..PubKeyMap::LIMIT {
-        p.acks[j] = flag(row, j + 1);
+    for (ack, flag) in p.acks.iter_mut().zip(acks) {
+        *ack = *flag == 1;
     }
-    flag(row, 0).then_some(p)
+    (*recorded == 1).then_some(p)
 }
 
 fn key_gen_of(map: PubKeyMap, b: &[u8]) -> KeyGen {
@@ -77,7 +74,7 @@ fn yes_or_no(yes: bool) -> &'static str {
 
 // A map, and behind it just one row of flags, 0 or 1, for each of its nodes: how many parts are complete, and whether that is enough for a key and for the group.
 pub(crate) fn complete(b: &[u8], out: &mut String) -> Result<(), Failure> {
-    let (map, at) = pub_key_map::read_map(b, 0)?;
+    let (map, at) = PubKeyMap::read(b, 0)?;
     let rows = b.get(at..).unwrap_or(b"");
     if rows.len() != ROW * map.len() || rows.iter().any(|x| 1 < *x) {
         return Err(Failure::BadLine);

@@ -2,10 +2,16 @@
 use crate::text::Failure;
 use crate::values::again;
 use crate::{counts, values};
+use change::{Change, ChangeState};
 use hex::FromHexError;
-use honey_badger::{read_schedule, write_schedule};
-use key_gen_message::{read_signed, write_signed};
+use honey_badger::EncryptionSchedule;
+use join_plan::JoinPlan;
+use key_gen_message::{KeyGenMessage, SignedKeyGenMsg};
+use message::Message;
+use params::Params;
 use std::alloc::Global;
+use sync_key_gen::{Ack, Part};
+use votes::SignedVote;
 
 // The greatest length of a line.
 pub const LIMIT: usize = 140000;
@@ -14,23 +20,18 @@ pub const LIMIT: usize = 140000;
 fn dispatch(kind: &str, b: &[u8], out: &mut String) -> Result<(), Failure> {
     match kind {
         "map" => values::map(b, out),
-        "schedule" => again(b, read_schedule, write_schedule, out),
-        "params" => again(b, params::read_params, params::write_params, out),
-        "change" => again(b, change::read_change, change::write_change, out),
-        "state" => again(b, change::read_state, change::write_state, out),
+        "schedule" => again::<EncryptionSchedule>(b, out),
+        "params" => again::<Params>(b, out),
+        "change" => again::<Change>(b, out),
+        "state" => again::<ChangeState>(b, out),
         "vote" => values::vote(b, out),
-        "signed-vote" => again(b, votes::read_signed_vote, votes::write_signed_vote, out),
-        "part" => again(b, sync_key_gen::read_part, sync_key_gen::write_part, out),
-        "ack" => again(b, sync_key_gen::read_ack, sync_key_gen::write_ack, out),
-        "key-gen" => again(
-            b,
-            key_gen_message::read_message,
-            key_gen_message::write_message,
-            out,
-        ),
-        "signed-key-gen" => again(b, read_signed, write_signed, out),
-        "message" => again(b, message::read_message, message::write_message, out),
-        "plan" => values::plan(b, out),
+        "signed-vote" => again::<SignedVote>(b, out),
+        "part" => again::<Part>(b, out),
+        "ack" => again::<Ack>(b, out),
+        "key-gen" => again::<KeyGenMessage>(b, out),
+        "signed-key-gen" => again::<SignedKeyGenMsg>(b, out),
+        "message" => again::<Message>(b, out),
+        "plan" => again::<JoinPlan>(b, out),
         "batch" => values::batch(b, out),
         "user" => values::user(b, out),
         "max-faulty" => counts::faulty(b, out),

@@ -51,8 +51,3 @@ impl fmt::Display for Hex<'_> {
         Ok(())
     }
 }
-
-// The first n bytes of a buffer; all of them where there are fewer.
-pub(crate) fn first(s: &[u8], n: usize) -> &[u8] {
-    s.get(..n).unwrap_or(s)
-}

@@ -1,15 +1,12 @@
 // Values read and written again: `ok` with the bytes, or the refusal's number. A map and a vote are shown in words too.
-use crate::text::{Failure, Hex, first};
-use array_list::ArrayList;
-use bincode::Refusal;
+use crate::text::{Failure, Hex};
+use bincode::{Decoded, Encoded};
 use change::Change;
 use honey_badger::EncryptionSchedule;
 use pub_key_map::PubKeyMap;
+use std::alloc::{AllocError, Global};
 use std::fmt;
 use votes::Vote;
-
-// The room for a value that is written.
-const ROOM: usize = 512;
 
 // Ids and keys, as `1:11,2:12`; `-` for none.
 #[derive(Clone, Copy)]
@@ -58,54 +55,34 @@ impl fmt::Display for ChangeText {
     }
 }
 
-// A value as the writer of its kind encodes it.
-pub(crate) fn encoded<T, W: Fn(&mut [u8], usize, T) -> usize>(
-    value: T,
-    write: W,
-) -> ArrayList<u8, ROOM>
-    requires { W.IsAlwaysCallable write }
-{
-    let mut items = [0u8; ROOM];
-    let count = write(&mut items, 0, value);
-    ArrayList { count, items }
+// The bytes of a value.
+pub(crate) fn encoded<T: Encoded>(alloc: Global, value: T) -> Result<Vec<u8>, AllocError> {
+    let mut bytes = vec![in alloc; 0u8; value.size()]?;
+    value.write(&mut bytes, 0);
+    Ok(bytes)
 }
 
-// The value of a kind that the whole input is, written again.
-pub(crate) fn again<
-    T: Copy,
-    R: Fn(&[u8], usize) -> Result<(T, usize), Refusal>,
-    W: Fn(&mut [u8], usize, T) -> usize,
->(b: &[u8], read: R, write: W, out: &mut String) -> Result<(), Failure>
-    requires reads { R.IsAlwaysCallable read }
-    requires writes { W.IsAlwaysCallable write }
-{
-    let (value, _) = bincode::all_read(b, read(b, 0))?;
-    let bytes = encoded(value, write);
-    writeln!(out, "ok {}", Hex(bytes.as_slice()))?;
+// The value that the whole input is, written again.
+pub(crate) fn again<T: Decoded + Encoded>(b: &[u8], out: &mut String) -> Result<(), Failure> {
+    let (value, _) = bincode::read_whole::<T>(b)?;
+    let bytes = encoded(*out.allocator(), value)?;
+    writeln!(out, "ok {}", Hex(&bytes))?;
     Ok(())
 }
 
 pub(crate) fn map(b: &[u8], out: &mut String) -> Result<(), Failure> {
-    let (map, _) = pub_key_map::read_whole_map(b)?;
-    let bytes = encoded(map, pub_key_map::write_map);
-    writeln!(out, "ok {} {}", Hex(bytes.as_slice()), NodesText(map))?;
+    let (map, _) = bincode::read_whole::<PubKeyMap>(b)?;
+    let bytes = encoded(*out.allocator(), map)?;
+    writeln!(out, "ok {} {}", Hex(&bytes), NodesText(map))?;
     Ok(())
 }
 
 pub(crate) fn vote(b: &[u8], out: &mut String) -> Result<(), Failure> {
-    let (vote, _) = bincode::all_read(b, votes::read_vote(b, 0))?;
-    let bytes = encoded(vote, votes::write_vote);
+    let (vote, _) = bincode::read_whole::<Vote>(b)?;
+    let bytes = encoded(*out.allocator(), vote)?;
     let Vote { change, era, num } = vote;
-    let bytes = Hex(bytes.as_slice());
+    let bytes = Hex(&bytes);
     writeln!(out, "ok {bytes} era {era} num {num} {}", ChangeText(change))?;
-    Ok(())
-}
-
-pub(crate) fn plan(b: &[u8], out: &mut String) -> Result<(), Failure> {
-    let (plan, _) = join_plan::read_plan(b)?;
-    let mut buf = [0u8; ROOM];
-    let n = join_plan::write_plan(&mut buf, plan)?;
-    writeln!(out, "ok {}", Hex(first(&buf, n)))?;
     Ok(())
 }
 

@@ -3,7 +3,7 @@
 
 ghost use Rattle.std.specs.Prelude.{◌≡◌, ◌∷◌, [], ◌++◌, ◌≤◌, length, take};
 ghost use Rattle.bincode.specs.Sizes.{base};
-ghost use Rattle.due.specs.Due.{due_of, no_item, no_due};
+ghost use Rattle.due.specs.Due.{due_of, no_item, no_due, due_number};
 
 use array_list::ArrayList;
 
@@ -12,6 +12,18 @@ use array_list::ArrayList;
 pub enum DueKind {
     Part,
     Ack(usize),
+}
+
+// Its number in a lent list.
+impl From<DueKind> for u8 {
+    ghost from_gives = { λ k n. n ≡ due_number k };
+
+    fn from(kind: DueKind) -> u8 {
+        match kind {
+            DueKind::Part => 0,
+            DueKind::Ack(_) => 1,
+        }
+    }
 }
 
 #[derive(Clone, Copy)]
@@ -58,17 +70,16 @@ impl DueList {
     }
 
     // How many items there are: a count past the array counts as the array's length.
-    pub fn len(self) -> usize
-        ensures { (result ≡ length (due_of self)) × (result ≤ base.due) }
+    pub fn len(&self) -> usize
+        ensures { (result ≡ length (due_of self.now)) × (result ≤ base.due) }
     {
         self.items.len()
     }
 
     // One item more; a full list has no place for it.
-    pub fn append(mut self, item: DueItem) -> Self
-        ensures { due_of result ≡ take base.due (due_of self ++ (item ∷ [])) }
+    pub fn append(&mut self, item: DueItem)
+        ensures { due_of self.new ≡ take base.due (due_of self.old ++ (item ∷ [])) }
     {
         self.items.push(item);
-        self
     }
 }

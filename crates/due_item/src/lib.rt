@@ -32,7 +32,7 @@ fn fate(
     if tag != 1 {
         return Err(Refusal::Malformed);
     }
-    let (read, _) = message::read_whole_message(message)?;
+    let (read, _) = bincode::read_whole::<Message>(message)?;
     let Message::KeyGen(made_in, message, sig) = read else {
         return Err(Refusal::Malformed); // a vote, which has another tag
     };
@@ -60,18 +60,13 @@ pub fn handle_due_item(mut state: DynamicHoneyBadger, message: &[u8]) -> Handled
     let counter = state.vote_counter;
     let map = counter.pub_keys;
     let store = state.store;
-    let mut outcome = Ok(None);
-    match fate(message, counter.era, map, counter.our_id, store.len()) {
-        Ok(Some(m)) => {
-            let store = state.store;
-            let p = store.push(m);
-            let next = p.store;
-            state.store = next;
-        }
-        Ok(None) => {}
-        Err(n) => {
-            outcome = Err(n);
-        }
+    let fated = fate(message, counter.era, map, counter.our_id, store.len());
+    if let Ok(Some(m)) = fated {
+        let p = store.push(m);
+        state.store = p.store;
     }
-    Handled { state, outcome }
+    Handled {
+        state,
+        outcome: fated.map(|_| None),
+    }
 }

@@ -1,96 +1,67 @@
 -- Laws of what a host asks between batches.
 -- Assumes nothing.
-use borrow.Author.Tests.{lt-ltb, le-ltb, ltb-true, ltb-false, eq-eqb, ne_eqb, eqb-true, eqb-false}
-use mathlib.Core.Bool.{Bool, true, false, ◌||◌}
-use mathlib.Core.List.{List, [], ◌∷◌}
+use borrow.Author.Tests.{lt-ltb, le-ltb, ltb-true, ltb-false, lt-leb, le-leb, eqb-true}
+use mathlib.Core.Bool.{Bool, true, false, cond, ◌||◌}
+use mathlib.Core.List.{List, [], ◌∷◌, map}
 use mathlib.Core.Path.{◌≡◌, refl, sym, ap, ◌∙◌}
-use Prim.Native.Nat.{ℕ, zero, suc, ◌+◌, ◌^◌, ◌≤◌, ◌<◌}
-use native.Mathlib.Numerals.{add-one}
+use Prim.Native.Nat.{ℕ, suc, ◌+◌, ◌^◌, ◌≤◌, ◌<◌}
 use native.Mathlib.Omega.{arith}
-use lib.Dec.{ltb, eqb}
-use lib.ListN.{length, drop}
+use lib.Dec.{leb, ltb, eqb}
+use lib.ListN.{length}
 use Rattle.std.specs.Bool.{then_some}
-use Rattle.std.specs.List.{list_any, range_with_len}
-use Rattle.std.specs.Option.{MatchOption, SomeIff, ok_or}
+use Rattle.std.specs.List.{list_any}
+use Rattle.std.specs.Option.{MatchOption, SomeIff, ok_or, option_map, unwrap_or}
 use Rattle.std.specs.declared.option.Option.{Option}
 use Rattle.std.specs.declared.option.Option.TheVariants.{None, Some}
 use Rattle.std.specs.declared.result.Result.TheVariants.{Err}
 use Rattle.bincode.specs.declared.Refusal.TheVariants.{LastEpoch}
-use Rattle.lists.specs.Lists.{Found, found, nothing, at_place}
-use Rattle.lists.proofs.ListLaws.{rest_none}
-use Rattle.lists.proofs.FilterLaws.{filter_length}
+use Rattle.lists.specs.Lists.{Found, filter, lookup, map_found, option_as_found}
 use Rattle.util.specs.MaxFaulty.{max_faulty}
-use Rattle.votes.specs.Votes.{SignedVoteOf}
-use Rattle.vote_counter.specs.VoteCounter.{CounterOf, newer, pending_votes}
+use Rattle.votes.specs.declared.SignedVote.{SignedVote}
+use Rattle.votes.specs.Votes.{SignedVoteOf, signed_of}
+use Rattle.signed_votes.specs.SignedVotes.{voter_of, num_of}
+use Rattle.vote_counter.specs.VoteCounter.{CounterOf, at_or_below, obsolete, newer, pending_votes}
 use Rattle.key_gen_message.specs.KeyGenMessage.{SignedKeyGenMsgOf}
 use Rattle.dynamic_honey_badger.specs.Asked.{row5, epoch_in, said_next, some_by, some_stored, should_propose}
 use Rattle.dynamic_honey_badger.specs.State.{StateOf, nodes_in}
 
--- no more votes are handed out than are pending
-pub pending_few : (c : CounterOf) → length (pending_votes c) ≤ length c.pending
-unfolding pending_votes
-pending_few c = filter_length (newer c) c.pending
+-- whether a pending vote is of an id and newer than that id's committed one
+abbrev pub own_waits : ℕ → Option ℕ → SignedVote → Bool
+own_waits id o x = cond (eqb x.voter id) (unwrap_or (option_map (λ old. ltb old x.vote.num) o) true) false
 
--- turns of a loop over the votes by place: the vote at the place, and those behind it
-vote_there : (vs : List SignedVoteOf) (i : ℕ) (v : SignedVoteOf) → at_place i vs ≡ found v → drop i vs ≡ v ∷ drop (suc i) vs
-unfolding at_place
-vote_there [] i v e = let z : ◌≡◌ {A = ℕ} 0 1 = cc in absurd (let y : ⊥ = omega arith in y)
-vote_there (x ∷ vs) zero v e = let f : x ≡ v = cc in ap (λ (u : SignedVoteOf). u ∷ vs) f
-vote_there (x ∷ vs) (suc i) v e = vote_there vs i v e
+-- a number is above one that there may be where it is not at or below it
+above : (num : ℕ) (o : Option ℕ) → unwrap_or (option_map (λ old. ltb old num) o) true ≡ cond (at_or_below num (option_as_found (λ (x : ℕ). x) o)) false true
+above num (Some old) = go (ltb old num) refl
+  where
+    go : (b : Bool) → ltb old num ≡ b → b ≡ cond (leb num old) false true
+    go true e = rw (lt-leb num old (ltb-true old num e))
+    go false e = rw (le-leb num old (ltb-false old num e))
+above num None = refl
 
-none_there : (vs : List SignedVoteOf) (i : ℕ) → at_place i vs ≡ nothing → drop i vs ≡ []
-unfolding at_place
-none_there [] i e = rest_none [] i (omega arith)
-none_there (x ∷ vs) zero e = let z : ◌≡◌ {A = ℕ} 0 1 = cc in absurd (let y : ⊥ = omega arith in y)
-none_there (x ∷ vs) (suc i) e = none_there vs i e
-
--- no vote at a place: none behind it
-past : (vs : List SignedVoteOf) (i : ℕ) → at_place i vs ≡ nothing → length vs ≤ i
-unfolding at_place
-past [] i e = omega arith
-past (x ∷ vs) zero e = let z : ◌≡◌ {A = ℕ} 0 1 = cc in absurd (let y : ⊥ = omega arith in y)
-past (x ∷ vs) (suc i) e = omega (arith, past vs i e)
-
-module _ (id : ℕ) (vs : List SignedVoteOf) (i : ℕ) where
-  module _ (v : SignedVoteOf) (e : at_place i vs ≡ found v) where
-    pub some_hit : v.voter ≡ id → some_by id (drop i vs) ≡ true
-    unfolding some_by
-    some_hit h = rw (vote_there vs i v e, eq-eqb v.voter id h)
-
-    pub some_miss : (v.voter ≡ id → ⊥) → some_by id (drop i vs) ≡ some_by id (drop (i + 1) vs)
-    unfolding some_by
-    some_miss h = rw (add-one, vote_there vs i v e, ne_eqb v.voter id h)
-
-  pub some_none : at_place i vs ≡ nothing → some_by id (drop i vs) ≡ false
+module _ (id : ℕ) where
+  some_kept : (v : SignedVoteOf) (vs : List SignedVoteOf) (a b : Bool) → eqb v.voter id ≡ b → some_by id (cond a (v ∷ vs) vs) ≡ (cond b a false || some_by id vs)
   unfolding some_by
-  some_none e = rw (none_there vs i e)
+  some_kept v vs true true e = rw e
+  some_kept v vs true false e = rw e
+  some_kept v vs false true e = refl
+  some_kept v vs false false e = refl
 
-  pub some_past : length vs ≤ i → some_by id (drop i vs) ≡ false
-  unfolding some_by
-  some_past l = rw (rest_none vs i l)
+  module _ (c : CounterOf) (o : Option ℕ) (own : option_as_found (λ (x : ℕ). x) o ≡ map_found num_of (lookup voter_of c.committed id)) where
+    waits : (x : SignedVote) (b : Bool) → eqb x.voter id ≡ b → cond b (unwrap_or (option_map (λ old. ltb old x.vote.num) o) true) false ≡ cond b (newer c (signed_of x)) false
+    unfolding obsolete
+    waits x true e =
+        above x.vote.num o
+        ∙ ap (λ (f : Found ℕ). cond (at_or_below x.vote.num f) false true) (own ∙ ap (λ (i : ℕ). map_found num_of (lookup voter_of c.committed i)) (sym (eqb-true x.voter id e)))
+    waits x false e = refl
 
--- whether a vote, if there is one, is of an id
-abbrev pub by_one : ℕ → Found SignedVoteOf → Bool
-by_one id (found v) = eqb v.voter id
-by_one id nothing = false
-
--- a test at each place is one of the votes
-module _ (id : ℕ) (vs : List SignedVoteOf) where
-  abbrev one_at : ℕ → Bool
-  one_at k = by_one id (at_place k vs)
-
-  module _ (i : ℕ) (rest : Bool) (e : rest ≡ some_by id (drop (i + 1) vs)) where
-    held : (v : SignedVoteOf) → at_place i vs ≡ found v → (b : Bool) → eqb v.voter id ≡ b → (b || rest) ≡ some_by id (drop i vs)
-    held v h true t = sym (some_hit id vs i v h (eqb-true v.voter id t))
-    held v h false t = e ∙ sym (some_miss id vs i v h (eqb-false v.voter id t))
-
-    turn : (x : Found SignedVoteOf) → at_place i vs ≡ x → (by_one id x || rest) ≡ some_by id (drop i vs)
-    turn (found v) h = held v h (eqb v.voter id) refl
-    turn nothing h = e ∙ some_past id vs (i + 1) (omega (arith, past vs i h)) ∙ sym (some_none id vs i h)
-
-  pub own_in : (i n : ℕ) → length vs ≤ i + n → list_any one_at (range_with_len i n) ≡ some_by id (drop i vs)
-  own_in i zero h = sym (some_past id vs i (omega (arith, h)))
-  own_in i (suc n) h = turn i (list_any one_at (range_with_len (i + 1) n)) (own_in (i + 1) n (omega (arith, h))) (at_place i vs) refl
+    -- a pending vote of an id is newer than its voter's committed one where it is newer than the id's
+    pub own_among : (xs : List SignedVote) → list_any (own_waits id o) xs ≡ some_by id (filter (newer c) (map signed_of xs))
+    unfolding some_by filter
+    own_among [] = refl
+    own_among (x ∷ xs) =
+        ap (λ (r : Bool). own_waits id o x || r) (own_among xs)
+        ∙ ap (λ (w : Bool). w || some_by id (filter (newer c) (map signed_of xs))) (waits x (eqb x.voter id) refl)
+        ∙ sym (some_kept (signed_of x) (filter (newer c) (map signed_of xs)) (newer c (signed_of x)) (eqb x.voter id) refl)
 
 -- the epoch is the sum, where it is no number too many
 module _ (era inner : ℕ) (Q : ℕ → Bool → Type 0) (told : (x : ℕ) (b : Bool) → Q x b → b ≡ ltb x 18446744073709551615) where

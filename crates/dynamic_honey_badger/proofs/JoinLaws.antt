@@ -1,7 +1,6 @@
 -- A joining with lent lists of due items, by what the checks said of its plan.
 -- Assumes nothing.
-use native.Mathlib.Omega.{arith}
-use Prim.Native.Nat.{ℕ, min}
+use Prim.Native.Nat.{ℕ}
 use mathlib.Core.Path.{◌≡◌, sym, ap, ◌∙◌}
 use mathlib.Core.List.{List, []}
 use Rattle.std.specs.Result.{IsErrAnd}
@@ -12,7 +11,6 @@ use Rattle.bincode.specs.Outcome.{Outcome, done, refused}
 use Rattle.bincode.specs.Rows.{row_number}
 use Rattle.bincode.specs.Sizes.{Sizes}
 use Rattle.bincode.specs.declared.Refusal.{Refusal}
-use Rattle.filled.specs.Filled.{shorter}
 use Rattle.filled.specs.Numbers.{DueIn, due_places}
 use Rattle.filled.proofs.DueLaws.{due_none, due_same}
 use Rattle.join_plan.specs.declared.JoinPlan.{JoinPlan}
@@ -20,10 +18,6 @@ use Rattle.join_plan.specs.JoinPlan.{plan_of}
 use Rattle.joining.specs.Starting.{join_checked}
 use Rattle.dynamic_honey_badger.specs.declared.JoinStarted.{JoinStarted}
 use Rattle.dynamic_honey_badger.specs.State.{Joined, joined_with, joined_from, joined, JoinAnswer, numbered, join_answer, join_answer_of, join_due, JoinedLent}
-
--- the smaller of two numbers is the shorter
-pub min_shorter : (a b : ℕ) → min a b ≡ shorter a b
-min_shorter a b = grind arith
 
 module _ (z : Sizes) (id key d : ℕ) (plan kinds indices eras : List ℕ) (places : d ≡ due_places kinds indices eras) (t : Result JoinPlan Refusal)
     (checked : outcome_as_said plan_of t ≡ join_checked z d id key plan) where

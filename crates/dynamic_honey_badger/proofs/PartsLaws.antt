@@ -1,29 +1,25 @@
 -- Laws of what is decided on small parts of the state: own votes, and received messages.
 -- Assumes nothing.
-use mathlib.Core.Bool.{Bool, true, true≢false}
+use mathlib.Core.Bool.{Bool, true}
 use mathlib.Core.Path.{◌≡◌, refl, sym, ap, ◌∙◌}
 use mathlib.Core.List.{List}
 use Prim.Native.Nat.{ℕ}
 use Rattle.std.specs.declared.option.Option.{Option}
 use Rattle.std.specs.declared.result.Result.{Result}
-use Rattle.std.specs.declared.result.Result.TheVariants.{Ok, Err}
-use Rattle.lists.specs.Lists.{Found, found}
-use Rattle.bincode.specs.Outcome.{Outcome, done, refused}
-use Rattle.bincode.specs.Rows.{row_number}
+use Rattle.lists.specs.Lists.{found}
+use Rattle.bincode.specs.Outcome.{done}
 use Rattle.bincode.specs.Sizes.{Sizes}
 use Rattle.bincode.specs.declared.Refusal.{Refusal}
 use Rattle.pub_key_map.specs.declared.Node.{Node}
 use Rattle.network_info.specs.NetworkInfo.{is_member}
 use Rattle.change.specs.Change.{ChangeOf}
 use Rattle.votes.specs.declared.SignedVote.{SignedVote}
-use Rattle.votes.specs.Votes.{SignedVoteOf}
 use Rattle.vote_counter.specs.declared.VoteCounter.{VoteCounter}
-use Rattle.vote_counter.specs.Answers.{signed_answer, SignRefusedKeeps}
-use Rattle.vote_counter.specs.VoteCounter.{CounterOf, sign_vote_for, counter_of}
+use Rattle.vote_counter.specs.VoteCounter.{sign_vote_for}
 use Rattle.dynamic_honey_badger.specs.declared.DynamicHoneyBadger.{DynamicHoneyBadger}
-use Rattle.dynamic_honey_badger.specs.OwnVotes.{VotedOf, voted_as, signed_in, said_vote, NotCastKeeps, vote_for}
-use Rattle.dynamic_honey_badger.specs.Parts.{voted_for, signed_as, UncastKeeps}
-use Rattle.dynamic_honey_badger.specs.State.{StateOf, nodes_in, with_counter, is_validator}
+use Rattle.dynamic_honey_badger.specs.OwnVotes.{NotCastKeeps, vote_for}
+use Rattle.dynamic_honey_badger.specs.Parts.{voted_for, UncastKeeps}
+use Rattle.dynamic_honey_badger.specs.State.{StateOf, nodes_in, is_validator}
 use Rattle.dynamic_honey_badger.proofs.OwnVotesLaws.{vote_signed}
 
 -- a state with another counter

@@ -1,11 +1,14 @@
 -- Laws of a node's state: the candidate map, a fresh key generation, and what a plan's change asks of a node that joins.
 -- Assumes nothing.
-use mathlib.Core.Bool.{Bool, false}
-use mathlib.Core.List.{[]}
+use mathlib.Core.Bool.{Bool, true, false}
+use mathlib.Core.List.{List, []}
 use mathlib.Core.Path.{◌≡◌, refl, sym, ap, ◌∙◌}
 use Prim.Native.Nat.{ℕ}
 use native.Mathlib.Omega.{arith}
-use Rattle.std.specs.Option.{MatchOption, IsSomeAnd}
+use lib.ListN.{length}
+use mir.Val.{bool_byte}
+use Rattle.std.specs.Bool.{then_some}
+use Rattle.std.specs.Option.{MatchOption, IsSomeAnd, is_some}
 use Rattle.std.specs.declared.option.Option.{Option}
 use Rattle.std.specs.declared.option.Option.TheVariants.{None, Some}
 use Rattle.lists.specs.Lists.{found, option_as_found}
@@ -13,7 +16,9 @@ use Rattle.lists.proofs.ListLaws.{false_true}
 use Rattle.bincode.specs.Sizes.{Sizes, base}
 use Rattle.pub_key_map.specs.declared.PubKeyMap.{PubKeyMap}
 use Rattle.pub_key_map.specs.PubKeyMap.{nodes_of}
-use Rattle.network_info.specs.NetworkInfo.{key_of}
+use Rattle.pub_key_map.specs.declared.Node.{Node}
+use Rattle.network_info.specs.NetworkInfo.{is_member, key_of}
+use Rattle.filled.specs.Numbers.{part_in}
 use Rattle.vote_counter.specs.VoteCounter.{is_key}
 use Rattle.change.specs.declared.Change.TheVariants.{NodeChange, EncryptionSchedule as ScheduleChange}
 use Rattle.change.specs.declared.ChangeState.{ChangeState}
@@ -78,3 +83,13 @@ no_map progress.None e = refl
 no_map (Complete c) e = refl
 no_map (InProgress (ScheduleChange y)) e = refl
 no_map (InProgress (NodeChange m)) e = absurd (none_some (sym e))
+
+-- the part that is told is the part that is due
+pub part_told : (ns : List Node) (id era : ℕ) (b : Bool) → b ≡ is_member ns id → part_in (then_some b era) ≡ part_due ns id era
+part_told ns id era true e = rw (sym e)
+part_told ns id era false e = rw (sym e)
+
+-- and how many there are
+pub part_counted : (p : Option ℕ) (b : Bool) (n : ℕ) → b ≡ is_some p → n ≡ bool_byte b → n ≡ length (part_in p)
+part_counted (Some era) b n e f = f ∙ ap bool_byte e
+part_counted None b n e f = f ∙ ap bool_byte e

@@ -21,7 +21,7 @@ use Rattle.key_gen_message.specs.KeyGenMessage.{SignedKeyGenMsgOf}
 use Rattle.message_store.specs.MessageStore.{from_era, store_of, no_store}
 use Rattle.due.specs.declared.DueKind.TheVariants.{Part}
 use Rattle.due.specs.declared.DueItem.{DueItem}
-use Rattle.filled.specs.Numbers.{DueIn, due_places}
+use Rattle.filled.specs.Numbers.{DueIn, part_in, due_places}
 use Rattle.join_plan.specs.JoinPlan.{PlanOf}
 use Rattle.joining.specs.Starting.{StartOf, start_checked, join_checked}
 use Rattle.dynamic_honey_badger.specs.declared.DynamicHoneyBadger.{DynamicHoneyBadger}
@@ -185,6 +185,10 @@ join_answer_of r = record { state = state_of r.state; due = r.due }
 
 abbrev pub joined_of : Result JoinStarted Refusal → Outcome JoinAnswer
 joined_of r = outcome_as_said join_answer_of r
+
+-- a state that joins, and the part that is due where there is one
+abbrev pub joining : StateOf → Option ℕ → Joined
+joining s part = record { state = s; due = part_in part }
 
 -- the struct of a state that is opened
 abbrev pub opened_held : ℕ → ℕ → ℕ → PubKeyMap → Params → DynamicHoneyBadger

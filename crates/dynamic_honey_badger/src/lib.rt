@@ -6,16 +6,14 @@ ghost use Rattle.lists.specs.Lists.{at_place, option_as_found};
 ghost use Rattle.bincode.specs.Sizes.{base};
 ghost use Rattle.pub_key_map.specs.PubKeyMap.{nodes_of};
 ghost use Rattle.change.specs.Change.{state_of as progress_of};
-ghost use Rattle.network_info.specs.NetworkInfo.{key_of};
 ghost use Rattle.votes.specs.Votes.{signed_of};
 ghost use Rattle.board.specs.Board.{said_standing};
-ghost use Rattle.vote_counter.specs.VoteCounter.{is_key, pending_votes};
+ghost use Rattle.vote_counter.specs.VoteCounter.{pending_votes};
 ghost use Rattle.key_gen_message.specs.KeyGenMessage as key_gen;
 ghost use Rattle.key_gen_state.specs.KeyGenState as running;
 ghost use Rattle.message.specs.Message.{content_of};
-ghost use Rattle.filled.specs.Numbers.{DueIn};
 ghost use Rattle.dynamic_honey_badger.specs.State.{state_of, is_validator, candidate_nodes, valid_under, opened_held};
-ghost use Rattle.dynamic_honey_badger.specs.State.{started, started_of, map_in_progress, joined_by, numbered, join_answer_of, JoinedLent};
+ghost use Rattle.dynamic_honey_badger.specs.State.{started, started_of, map_in_progress, joining, joined_by, JoinedLent};
 ghost use Rattle.dynamic_honey_badger.specs.OwnVotes.{voted_of, NotCastKeeps, vote_for_bytes, vote_to_add, vote_to_remove};
 ghost use Rattle.dynamic_honey_badger.specs.Received.{handled_of, MessageRefusedKeeps, received, message_era};
 ghost use Rattle.dynamic_honey_badger.specs.Parts.{WantedFor, CastFor, UncastKeeps, added_as, JudgedKey, JudgedContent, JudgedRead};
@@ -24,8 +22,8 @@ ghost use Rattle.dynamic_honey_badger.specs.Asked.{next_epoch, epoch_in, said_ne
 use bincode::Refusal;
 use board::Standing;
 use change::{Change, ChangeState};
-use due::{DueItem, DueKind};
 use fault_log::FaultKind;
+use filled::DueLists;
 use key_gen::KeyGen;
 use key_gen_message::SignedKeyGenMsg;
 use key_gen_state::KeyGenState;
@@ -104,14 +102,8 @@ pub fn verify_signature(pub_keys: PubKeyMap, state: Option<KeyGenState>, id: u32
 pub fn verify_under(pub_keys: PubKeyMap, candidate: Option<PubKeyMap>, id: u32, sig: u64) -> bool
     ensures { result ≡ valid_under (nodes_of pub_keys) (option_as_found nodes_of candidate) id sig }
 {
-    is_key(pub_keys, id, sig) || candidate.is_some_and(|keys| is_key(keys, id, sig))
-}
-
-// Whether a signature is under the id's key of a map.
-pub fn is_key(map: PubKeyMap, id: u32, sig: u64) -> bool
-    ensures { result ≡ is_key sig (key_of (nodes_of map) id) }
-{
-    network_info::node_key(map, id) == Some(sig)
+    vote_counter::is_key(pub_keys, id, sig)
+        || candidate.is_some_and(|keys| vote_counter::is_key(keys, id, sig))
 }
 
 // The era that a message is of.
@@ -138,7 +130,7 @@ fn map_in_progress(change: ChangeState) -> Option<PubKeyMap>
 fn wanted_from(map: PubKeyMap, our_id: u32, bytes: &[u8]) -> Result<Option<Change>, Refusal>
     ensures { WantedFor base (nodes_of map) our_id (λ s. vote_for_bytes base s bytes.now) result }
 {
-    let (change, _) = change::read_whole_change(bytes)?;
+    let (change, _) = bincode::read_whole::<Change>(bytes)?;
     if !network_info::is_member(map, our_id) {
         return Ok(None);
     }
@@ -193,8 +185,7 @@ fn added_as(outcome: VoteOutcome) -> Result<Option<FaultKind>, Refusal>
     ensures { result ≡ added_as outcome }
 {
     match outcome {
-        VoteOutcome::Stored => Ok(None),
-        VoteOutcome::Nothing => Ok(None),
+        VoteOutcome::Stored | VoteOutcome::Nothing => Ok(None),
         VoteOutcome::Faulty(k) => Ok(Some(k)),
     }
 }
@@ -249,7 +240,7 @@ fn judge_content(m: Message, sender: u32, known: Known) -> Task
 fn judge(bytes: &[u8], sender: u32, known: Known) -> Task
     ensures { JudgedRead base known.era (nodes_of known.pub_keys) (running.state_of known.key_gen_state) known.held sender bytes.now result }
 {
-    match message::read_whole_message(bytes) {
+    match bincode::read_whole::<Message>(bytes) {
         Ok((m, _)) => judge_content(m, sender, known),
         Err(n) => Task::Answer(Err(n)),
     }
@@ -295,50 +286,30 @@ impl DynamicHoneyBadger {
         ensures { JoinedLent base our_id secret_key plan.now result
             due_kinds.old due_kinds.new due_indices.old due_indices.new due_eras.old due_eras.new }
     {
-        let due_places = due_kinds.len().min(due_indices.len()).min(due_eras.len());
-        let read = joining::check_joining(due_places, our_id, secret_key, plan)?;
+        let lists = DueLists {
+            kinds: due_kinds,
+            indices: due_indices,
+            eras: due_eras,
+        };
+        let read = joining::check_joining(lists.places(), our_id, secret_key, plan)?;
         let pub_keys = read.pub_keys;
         let params = read.params;
         let change = read.change;
-        let state = DynamicHoneyBadger::open(our_id, secret_key, read.era, pub_keys, params);
-        Ok(state.join(change, due_kinds, due_indices, due_eras))
+        let mut state = DynamicHoneyBadger::open(our_id, secret_key, read.era, pub_keys, params);
+        let part = state.join(change);
+        lists.put(read.era, &[], part);
+        let due = usize::from(part.is_some());
+        Ok(JoinStarted { state, due })
     }
 
-    // What the plan's change asks of a node that joins: where a map is in progress, a fresh key generation, and a part where that map holds this node.
-    fn join(
-        mut self,
-        change: ChangeState,
-        kinds: &mut [u8],
-        indices: &mut [u64],
-        eras: &mut [u64],
-    ) -> JoinStarted
-        ensures { (join_answer_of result ≡ numbered (joined_by base self.vote_counter.our_id self.vote_counter.era (progress_of change) (state_of self)))
-            × DueIn (joined_by base self.vote_counter.our_id self.vote_counter.era (progress_of change) (state_of self)).due
-            kinds.old kinds.new indices.old indices.new eras.old eras.new }
+    // What the plan's change asks of a node that joins: where a map is in progress, a fresh key generation, and a part of this era where that map holds this node.
+    fn join(&mut self, change: ChangeState) -> Option<u64>
+        ensures { joining (state_of self.new) result ≡ joined_by base self.old.vote_counter.our_id self.old.vote_counter.era (progress_of change) (state_of self.old) }
     {
-        let Some(map) = map_in_progress(change) else {
-            return JoinStarted {
-                state: self,
-                due: 0,
-            };
-        };
-        let counter = self.vote_counter;
-        self.key_gen_state = Some(KeyGenState::new(KeyGen::new(counter.our_id, map)));
-        if !network_info::is_member(map, counter.our_id) {
-            return JoinStarted {
-                state: self,
-                due: 0,
-            };
-        }
-        let part = DueItem {
-            kind: DueKind::Part,
-            era: counter.era,
-        };
-        filled::store_due(part, 0, kinds, indices, eras);
-        JoinStarted {
-            state: self,
-            due: 1,
-        }
+        let map = map_in_progress(change)?;
+        let our_id = self.vote_counter.our_id;
+        self.key_gen_state = Some(KeyGenState::new(KeyGen::new(our_id, map)));
+        network_info::is_member(map, our_id).then_some(self.vote_counter.era)
     }
 
     // Whether the own id is in the current map.
@@ -456,12 +427,10 @@ impl DynamicHoneyBadger {
         ensures { result ≡ some_by (state_of self).counter.our_id (pending_votes (state_of self).counter) }
     {
         let counter = self.vote_counter;
-        let pending = counter.pending;
-        (0..pending.len()).any(|place| {
-            counter
-                .pending_vote(place)
-                .is_some_and(|x| x.voter == counter.our_id)
-        })
+        let our_id = counter.our_id;
+        let committed = counter.committed.num_of(our_id);
+        let mut pending = counter.pending.votes.as_slice().iter();
+        pending.any(|x| x.voter == our_id && committed.is_none_or(|num| num < x.vote.num))
     }
 
     // Whether to make a contribution for the next epoch. The host lends whether it has given its input, and how many proposals came.

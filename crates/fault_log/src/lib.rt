@@ -84,26 +84,25 @@ impl FaultLog {
     }
 
     // How many faults there are: a count past the array counts as the array's length.
-    pub fn len(self) -> usize
-        ensures { (result ≡ length (faults_of self)) × (result ≤ base.faults) }
+    pub fn len(&self) -> usize
+        ensures { (result ≡ length (faults_of self.now)) × (result ≤ base.faults) }
     {
         self.faults.len()
     }
 
     // One fault more; a full log has no place for it.
-    pub fn append(mut self, fault: Fault) -> Self
-        ensures { faults_of result ≡ take base.faults (faults_of self ++ (fault ∷ [])) }
+    pub fn append(&mut self, fault: Fault)
+        ensures { faults_of self.new ≡ take base.faults (faults_of self.old ++ (fault ∷ [])) }
     {
         self.faults.push(fault);
-        self
     }
 }
 
-impl PartFault {
-    fn number(self) -> u8
-        ensures { result ≡ part_fault_number self }
-    {
-        match self {
+impl From<PartFault> for u8 {
+    ghost from_gives = { λ k n. n ≡ part_fault_number k };
+
+    fn from(fault: PartFault) -> u8 {
+        match fault {
             PartFault::RowCount => 9,
             PartFault::MultipleParts => 10,
             PartFault::DecryptRow => 11,
@@ -113,11 +112,11 @@ impl PartFault {
     }
 }
 
-impl AckFault {
-    fn number(self) -> u8
-        ensures { result ≡ ack_fault_number self }
-    {
-        match self {
+impl From<AckFault> for u8 {
+    ghost from_gives = { λ k n. n ≡ ack_fault_number k };
+
+    fn from(fault: AckFault) -> u8 {
+        match fault {
             AckFault::ValueCount => 14,
             AckFault::MissingPart => 15,
             AckFault::DecryptValue => 16,
@@ -127,12 +126,12 @@ impl AckFault {
     }
 }
 
-impl FaultKind {
-    // The kind's place among the nineteen.
-    pub fn number(self) -> u8
-        ensures { result ≡ fault_number self }
-    {
-        match self {
+// The kind's place among the nineteen.
+impl From<FaultKind> for u8 {
+    ghost from_gives = { λ k n. n ≡ fault_number k };
+
+    fn from(kind: FaultKind) -> u8 {
+        match kind {
             FaultKind::InvalidVoteSignature => 0,
             FaultKind::InvalidCommittedVote => 1,
             FaultKind::UnexpectedDhbMessageEra => 2,
@@ -142,8 +141,8 @@ impl FaultKind {
             FaultKind::InvalidKeyGenMessageEra => 6,
             FaultKind::UnexpectedKeyGenPart => 7,
             FaultKind::UnexpectedKeyGenAck => 8,
-            FaultKind::SyncKeyGenPart(p) => p.number(),
-            FaultKind::SyncKeyGenAck(a) => a.number(),
+            FaultKind::SyncKeyGenPart(p) => u8::from(p),
+            FaultKind::SyncKeyGenAck(a) => u8::from(a),
         }
     }
 }

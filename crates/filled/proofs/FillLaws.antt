@@ -1,4 +1,4 @@
--- A lent list that is filled place by place, and the loop that writes what f says of each element into one, as far as it has places.
+-- A lent list that is filled place by place.
 -- Assumes nothing.
 use Prim.Native.Nat.{ℕ, suc, ◌+◌, ◌≤◌, ◌<◌}
 use mathlib.Core.Path.{◌≡◌, refl, sym, ap, ◌∙◌}
@@ -8,7 +8,7 @@ use native.Mathlib.Omega.{arith}
 use native.Mathlib.Numerals.{add-one}
 use lib.Dec.{ltb}
 use lib.ListN.{length, take, drop, get_or, set, length-append, length-take, length-drop, length-map, drop_of_length-le}
-use lib.Seq.{drop-cons, set_at, set_out, take_all, take-append-le, take-nil, take-suc, length-take-le, get_or-take}
+use lib.Seq.{drop-cons, set_at, set_out, take_all, take-append-le, take-nil, take-suc, length-take-le}
 use borrow.Author.Tests.{ltb-true, ltb-false}
 use Rattle.filled.specs.Filled.{filled}
 
@@ -57,70 +57,37 @@ module _ {B : Type 0} where
           let k = ltb-false i (length old) t in
           set_out (filled xs old) i x (omega (arith, length_filled xs old, k)) ∙ filled_full xs old x (omega (arith, e, k))
 
-  -- the first
-  pub filled_first : (old : List B) (x : B) → set old 0 x ≡ filled (x ∷ []) old
-  filled_first old x = ap (λ (ys : List B). set ys 0 x) (sym (filled_none old)) ∙ filled_next [] old 0 x refl
-
   -- with room for all of them, the list begins with them, and is as it was behind them
   pub filled_room : (xs old : List B) → length xs ≤ length old → filled xs old ≡ xs ++ drop (length xs) old
   unfolding filled
   filled_room xs old h = rw (take_all (length old) xs h)
 
--- the loop over the elements below a count of an array
-module _ {A B : Type 0} (f : A → B) (array : List A) (count : ℕ) (old : List B) where
-  -- the list is filled with what f says of the elements before place i
+-- the loop that stores what h says of each of some items, whether there is a place for it or not
+module _ {A B : Type 0} (h : A → B) (items : List A) (old : List B) where
   abbrev pub FilledTo : ℕ → List B → Type 0
-  FilledTo i list = list ≡ filled (map f (take i (take count array))) old
-
-  -- it has as many places as before
-  pub fill_length : (i : ℕ) (list : List B) → FilledTo i list → length list ≡ length old
-  fill_length i list e = rw e (length_filled (map f (take i (take count array))) old)
+  FilledTo n list = list ≡ filled (map h (take n items)) old
 
   -- at the start nothing is filled
   pub fill_start : FilledTo 0 old
   fill_start = sym (filled_none old)
 
   -- a turn
-  module _ (i : ℕ) (list : List B) (z : A) (e : FilledTo i list) (h : i < length (take count array)) where
-    -- the element at place i is the next of the view
-    next : map f (take (i + 1) (take count array)) ≡ map f (take i (take count array)) ++ (f (get_or array i z) ∷ [])
-    next =
-        let k : i < count = omega (arith, length-take count array) in
-        rw (add-one i, take-suc (take count array) i z h, get_or-take count array i z k) (map-append f (take i (take count array)) (get_or array i z ∷ []))
+  pub fill_turn : (n : ℕ) (list after : List B) (x : A) (y : B) → FilledTo n list → n < length items → x ≡ get_or items n x → y ≡ h x → after ≡ set list n y → FilledTo (n + 1) after
+  fill_turn n list after x y e k i s q =
+      let next : map h (take (n + 1) items) ≡ map h (take n items) ++ (h x ∷ []) =
+      rw (add-one n, take-suc items n x k, sym i) (map-append h (take n items) (x ∷ [])) in
+      rw (next, q, s, e) (filled_next (map h (take n items)) old n (h x) (length-map (take n items) h ∙ length-take-le n items (omega arith)))
 
-    -- as many are filled as turns were made
-    done : length (map f (take i (take count array))) ≡ i
-    done = length-map (take i (take count array)) f ∙ length-take-le i (take count array) (omega arith)
+  -- at the end all are stored
+  pub fill_end : (n : ℕ) (list : List B) → FilledTo n list → length items ≤ n → list ≡ filled (map h items) old
+  fill_end n list e k = rw (take_all n items k) at e
 
-    -- there is a place: what f says of the element is stored there
-    pub fill_store : (x : B) → x ≡ f (get_or array i z) → i < length list → (after : List B) → after ≡ set list i x → FilledTo (i + 1) after
-    fill_store x s l after q =
-        let k : i < length old = omega (arith, fill_length i list e) in
-        rw (next, q, s, e) (filled_more (map f (take i (take count array))) old i (f (get_or array i z)) done k)
-
-    -- there is none: the list stays as it is
-    pub fill_past : length list ≤ i → (after : List B) → after ≡ list → FilledTo (i + 1) after
-    fill_past l after q =
-        let k : length old ≤ length (map f (take i (take count array))) = omega (arith, fill_length i list e, done) in
-        rw next (q ∙ e ∙ filled_full (map f (take i (take count array))) old (f (get_or array i z)) k)
-
-  -- at the end the view is filled in
-  pub fill_end : (i : ℕ) (list : List B) → FilledTo i list → length (take count array) ≤ i → list ≡ filled (map f (take count array)) old
-  fill_end i list e h = rw (take_all i (take count array) h) at e
-
--- a list with a limit, of which lent lists hold what f says of each element, and one element more
+-- a list with a limit, and one element more
 module _ {A : Type 0} (limit : ℕ) (xs : List A) (n : ℕ) (size : length xs ≡ n) (a : A) where
   -- it has a place below the limit
   module _ (h : n < limit) where
     pub capped_more : take limit (xs ++ (a ∷ [])) ≡ xs ++ (a ∷ [])
     capped_more = take_all limit (xs ++ (a ∷ [])) (omega (arith, length-append xs (a ∷ []), size))
-
-    pub capped_count : length (take limit (xs ++ (a ∷ []))) ≡ n + 1
-    capped_count = ap length capped_more ∙ length-append xs (a ∷ []) ∙ ap (λ (k : ℕ). k + 1) size
-
-    pub capped_put : {B : Type 0} (f : A → B) (old list : List B) → list ≡ filled (map f xs) old → (x : B) → x ≡ f a
-        → set list n x ≡ filled (map f (take limit (xs ++ (a ∷ [])))) old
-    capped_put f old list e x s = rw (capped_more, map-append f xs (a ∷ []), e, s) (filled_next (map f xs) old n (f a) (length-map xs f ∙ size))
 
   -- at the limit it is left out
   module _ (b : n ≤ limit) (h : limit ≤ n) where

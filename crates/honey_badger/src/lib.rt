@@ -2,13 +2,11 @@
 #![tactic(auto)]
 
 ghost use Rattle.std.specs.Prelude.{◌≡◌, ◌≤◌, Bool, length};
-ghost use Rattle.bincode.specs.Read.{whole};
-ghost use Rattle.bincode.specs.Answer.{answer, outcome_as_said};
+ghost use Rattle.bincode.specs.Answer.{outcome_as_said};
 ghost use Rattle.bincode.specs.Numbers.{fixed};
-ghost use Rattle.bincode.specs.Writing.{written, written_to};
 ghost use Rattle.honey_badger.specs.EncryptionSchedule.{cycle_of, use_on_epoch, read_schedule, schedule_bytes};
 
-use bincode::{Encoded, Refusal};
+use bincode::{Decoded, Encoded, Refusal};
 
 #[derive(Clone, Copy, PartialEq, Eq)]
 pub enum EncryptionSchedule {
@@ -66,43 +64,45 @@ impl EncryptionSchedule {
     }
 }
 
-pub fn read_schedule(s: &[u8], at: usize) -> Result<(EncryptionSchedule, usize), Refusal>
-    ensures { result ≡ answer (λ (x : EncryptionSchedule). x) (read_schedule fixed s.now at) }
-{
-    let Ok((tag, c)) = bincode::read_u32(s, at) else {
-        return Err(Refusal::Malformed);
-    };
-    match tag {
-        0 => Ok((EncryptionSchedule::Always, c)),
-        1 => Ok((EncryptionSchedule::Never, c)),
-        2 => {
-            let Ok((n, d)) = bincode::read_u32(s, c) else {
-                return Err(Refusal::Malformed);
-            };
-            Ok((EncryptionSchedule::EveryNthEpoch(n), d))
+impl Decoded for EncryptionSchedule {
+    ghost use Rattle.honey_badger.specs.declared.EncryptionSchedule.{EncryptionSchedule};
+
+    ghost Value = { EncryptionSchedule };
+
+    ghost held = { λ x. x };
+
+    ghost read_at = { read_schedule fixed };
+
+    #[tactic(auto, using(bincode::proofs::NumberLaws::read_refused), unfolding(crate::specs::EncryptionSchedule::read_schedule))]
+    fn read(s: &[u8], at: usize) -> Result<(Self, usize), Refusal> {
+        let Ok((tag, c)) = bincode::read_u32(s, at) else {
+            return Err(Refusal::Malformed);
+        };
+        match tag {
+            0 => Ok((EncryptionSchedule::Always, c)),
+            1 => Ok((EncryptionSchedule::Never, c)),
+            2 => {
+                let Ok((n, d)) = bincode::read_u32(s, c) else {
+                    return Err(Refusal::Malformed);
+                };
+                Ok((EncryptionSchedule::EveryNthEpoch(n), d))
+            }
+            3 => {
+                let Ok((on, d)) = bincode::read_u32(s, c) else {
+                    return Err(Refusal::Malformed);
+                };
+                let Ok((off, e)) = bincode::read_u32(s, d) else {
+                    return Err(Refusal::Malformed);
+                };
+                Ok((EncryptionSchedule::TickTock(on, off), e))
+            }
+            _ => Err(Refusal::Malformed),
         }
-        3 => {
-            let Ok((on, d)) = bincode::read_u32(s, c) else {
-                return Err(Refusal::Malformed);
-            };
-            let Ok((off, e)) = bincode::read_u32(s, d) else {
-                return Err(Refusal::Malformed);
-            };
-            Ok((EncryptionSchedule::TickTock(on, off), e))
-        }
-        _ => Err(Refusal::Malformed),
     }
 }
 
-// A schedule that is a whole input: nothing may be left over.
-#[tactic(auto, using(bincode::proofs::AnswerLaws::all_read_whole))]
-pub fn read_whole_schedule(s: &[u8]) -> Result<(EncryptionSchedule, usize), Refusal>
-    ensures { result ≡ answer (λ (x : EncryptionSchedule). x) (whole (read_schedule fixed s.now) s.now) }
-{
-    bincode::all_read(s, read_schedule(s, 0))
-}
-
 // How many bytes a schedule takes.
+#[tactic(auto, using(crate::proofs::ScheduleLaws::length_schedule))]
 pub fn schedule_size(x: EncryptionSchedule) -> usize
     ensures { (result ≡ length (schedule_bytes fixed x)) × (result ≤ 12) }
 {
@@ -114,39 +114,21 @@ pub fn schedule_size(x: EncryptionSchedule) -> usize
     }
 }
 
-fn write_tick_tock(buf: &mut [u8], at: usize, on: u32, off: u32) -> usize
-    ensures { (buf.new ≡ written buf.old at (schedule_bytes fixed (EncryptionSchedule.TickTock on off)))
-        × (result ≡ written_to buf.old at (schedule_bytes fixed (EncryptionSchedule.TickTock on off))) }
-{
-    if bincode::room(buf.len(), at, 12) {
-        let c = bincode::write_u32(buf, at, 3);
-        let d = bincode::write_u32(buf, c, on);
-        bincode::write_u32(buf, d, off)
-    } else {
-        at
-    }
-}
-
-// The position behind the schedule, or `at` where it has no room; then nothing is written.
-pub fn write_schedule(buf: &mut [u8], at: usize, x: EncryptionSchedule) -> usize
-    ensures { (buf.new ≡ written buf.old at (schedule_bytes fixed x)) × (result ≡ written_to buf.old at (schedule_bytes fixed x)) }
-{
-    match x {
-        EncryptionSchedule::Always => bincode::write_u32(buf, at, 0),
-        EncryptionSchedule::Never => bincode::write_u32(buf, at, 1),
-        EncryptionSchedule::EveryNthEpoch(n) => bincode::write_both(buf, at, 2u32, n),
-        EncryptionSchedule::TickTock(on, off) => write_tick_tock(buf, at, on, off),
-    }
-}
-
 impl Encoded for EncryptionSchedule {
     ghost bytes = { schedule_bytes fixed };
 
+    #[tactic(auto, using(bincode::proofs::WriteLaws::size_told))]
     fn size(&self) -> usize {
         schedule_size(*self)
     }
 
+    #[tactic(auto, unfolding(crate::specs::EncryptionSchedule::schedule_bytes))]
     fn write(&self, buf: &mut [u8], at: usize) -> usize {
-        write_schedule(buf, at, *self)
+        match *self {
+            EncryptionSchedule::Always => bincode::write_u32(buf, at, 0),
+            EncryptionSchedule::Never => bincode::write_u32(buf, at, 1),
+            EncryptionSchedule::EveryNthEpoch(n) => (2u32, n).write(buf, at),
+            EncryptionSchedule::TickTock(on, off) => (3u32, on, off).write(buf, at),
+        }
     }
 }

@@ -1,14 +1,14 @@
 -- The batch call by its number of places for faults, and the list of records that is filled from its answer.
 -- Assumes nothing.
-use Prim.Native.Nat.{ℕ, ◌+◌, ◌≤◌, ◌<◌}
+use Prim.Native.Nat.{ℕ, ◌+◌, ◌≤◌, ◌<◌, min}
 use mathlib.Core.Path.{◌≡◌, refl, sym, ap, subst, ◌∙◌}
 use mathlib.Core.Bool.{Bool, true, false, cond, ◌||◌}
 use mathlib.Core.List.{List, ◌++◌, map}
 use native.Mathlib.Omega.{arith}
 use native.Mathlib.Numerals.{add-one}
 use lib.Dec.{ltb}
-use lib.ListN.{length, take, get_or, set}
-use lib.Seq.{take_at, take_all, take-suc, length-take-le}
+use lib.ListN.{length, take, drop, get_or, set, length-append, length-drop}
+use lib.Seq.{take_at, length-take-le}
 use borrow.Author.Tests.{ltb-true, ltb-false, le-ltb, lt-ltb}
 use Rattle.std.specs.List.{zip, enumerate_from}
 use Rattle.std.specs.declared.result.Result.{Result}
@@ -34,7 +34,11 @@ use Rattle.std.proofs.lemmas.List.FromFn.{length-enumerate_from, get_or-enumerat
 use Rattle.std.proofs.lemmas.Slice.Zip.{length-zip, get_or-zip}
 use Rattle.host.proofs.PairLaws.{lists_paired, pairs_more, pairs_length, pairs_all}
 
--- the shorter of two lengths is no longer than the second
+-- the shorter of two lengths, as the library says it
+pub min_shorter : (a b : ℕ) → min a b ≡ shorter a b
+min_shorter a b = grind arith
+
+-- it is no longer than the second
 pub shorter_le : (a b : ℕ) → shorter a b ≤ b
 shorter_le a b = go (ltb a b) refl
   where
@@ -117,6 +121,12 @@ module _ (z : Sizes) (s : StateOf) (era inner : ℕ) (bytes verdicts : List ℕ)
 -- and what was filled there is what the first places of the whole list hold
 pub first_filled : (xs old part rest : List ℕ) (k : ℕ) → k ≤ length old → part ≡ filled xs (take k old) → take k (part ++ rest) ≡ filled xs (take k old)
 first_filled xs old part rest k h e = take_at part rest k (ap length e ∙ length_filled xs (take k old) ∙ length-take-le k old h) ∙ e
+
+-- the whole list is as long as it was
+pub first_length : (xs old part : List ℕ) (k : ℕ) → k ≤ length old → part ≡ filled xs (take k old) → length (part ++ drop k old) ≡ length old
+first_length xs old part k h e =
+    let front : length part ≡ k = ap length e ∙ length_filled xs (take k old) ∙ length-take-le k old h in
+    omega (arith, length-append part (drop k old), front, length-drop k old, h)
 
 -- the batch call on the first places of two lists does what it says of as many places as the host lent: answer, faults as records, due items
 pub records_done : (s : DynamicHoneyBadger) (era inner : ℕ) (bytes verdicts : List ℕ) (k n : ℕ) (ids kinds : List ℕ) (d : DueLists) (r : Processed) (ids' kinds' rest rest' : List ℕ) (d' : DueLists)

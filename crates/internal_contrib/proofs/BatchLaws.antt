@@ -6,10 +6,12 @@ use mathlib.Core.List.{List, [], ◌∷◌, ◌++◌}
 use mathlib.Core.Bool.{Bool, true, false, cond}
 use native.Mathlib.Omega.{arith}
 use native.Mathlib.Nat.{add-zero}
-use lib.Dec.{eqb}
+use lib.Dec.{eqb, lit<}
 use lib.ListN.{length, take, drop, length-append}
 use borrow.Author.Tests.{lt-ltb, le-ltb}
 use Rattle.std.specs.declared.option.Option.{Option}
+use Rattle.std.specs.declared.option.Option.TheVariants.{Some, None}
+use Rattle.std.specs.Option.{unwrap_or}
 use Rattle.std.specs.declared.result.Result.{Result}
 use Rattle.std.specs.declared.result.Result.TheVariants.{Ok, Err}
 use Rattle.lists.specs.Lists.{found, lookup}
@@ -27,6 +29,7 @@ use Rattle.bincode.proofs.ItemLaws.{foldl_more}
 use Rattle.bincode.proofs.StandLaws.{stands_left, stands_right, stands_self}
 use Rattle.internal_contrib.specs.declared.Contrib.{Contrib}
 use Rattle.internal_contrib.specs.declared.BatchIndex.{BatchIndex}
+use Rattle.internal_contrib.specs.declared.Span.{Span}
 use Rattle.internal_contrib.specs.InternalContrib.{ContribOf, read_contribs, read_batch, contrib_bytes, batch_bytes}
 use Rattle.internal_contrib.specs.Places.{placed, Place, at_place, no_place, place_from, message_count, user_in, has_id, user_of, start_at, start_in, contributed, said_place}
 use Rattle.internal_contrib.specs.Index.{contribs_in, no_contrib, index_held, contrib_id, placed_from, placed_in, place_by, place_in, indexed, Indexed}
@@ -48,16 +51,19 @@ pub count_more : (cs : List ContribOf) (x : ContribOf) → message_count (cs ++ 
 unfolding message_count
 count_more cs x = foldl_more (λ n c. n + length c.messages) 0 cs x
 
-pub length_more : (cs : List ContribOf) (x : ContribOf) → length (concat_map contrib_bytes (cs ++ (x ∷ []))) ≡ length (concat_map contrib_bytes cs) + length (contrib_bytes x)
+pub length_more : (cs : List ContribOf) (x : ContribOf)
+    → length (concat_map contrib_bytes (cs ++ (x ∷ []))) ≡ length (concat_map contrib_bytes cs) + length (contrib_bytes x)
 length_more [] x = simp length-append (omega arith)
 length_more (c ∷ cs) x = simp (length-append, length_more cs x) (omega arith)
 
 -- what is kept of contributions that stand one behind the other
-pub placed_more : (at : ℕ) (cs : List ContribOf) (x : ContribOf) → placed_from at (cs ++ (x ∷ [])) ≡ placed_from at cs ++ (placed (at + length (concat_map contrib_bytes cs)) x ∷ [])
+pub placed_more : (at : ℕ) (cs : List ContribOf) (x : ContribOf)
+    → placed_from at (cs ++ (x ∷ [])) ≡ placed_from at cs ++ (placed (at + length (concat_map contrib_bytes cs)) x ∷ [])
 unfolding placed_from
 placed_more at [] x = rw add-zero
 placed_more at (c ∷ cs) x =
-    let e : at + length (contrib_bytes c ++ concat_map contrib_bytes cs) ≡ at + length (contrib_bytes c) + length (concat_map contrib_bytes cs) = simp length-append (omega arith) in
+    let e : at + length (contrib_bytes c ++ concat_map contrib_bytes cs) ≡ at + length (contrib_bytes c) + length (concat_map contrib_bytes cs)
+    = simp length-append (omega arith) in
     rw e (ap (λ (ks : List Contrib). placed at c ∷ ks) (placed_more (at + length (contrib_bytes c)) cs x))
 
 pub length_placed : (at : ℕ) (cs : List ContribOf) → length (placed_from at cs) ≡ length cs
@@ -92,7 +98,7 @@ module _ (s : List ℕ) (id start n : ℕ) where
   unfolding place_from has_id user_in
   place_shows at [] p = absurd (place_clash (sym p))
   place_shows at (c ∷ cs) p =
-      let l : length (contrib_bytes c ++ concat_map contrib_bytes cs) ≡ length (contrib_bytes c) + length (concat_map contrib_bytes cs) = length-append (contrib_bytes c) (concat_map contrib_bytes cs) in
+      let l = length-append (contrib_bytes c) (concat_map contrib_bytes cs) in
       let g = go l (eqb c.id id) (place_shows (at + length (contrib_bytes c)) cs) p in
       record { has = g.0; within = g.1; shown = g.2 }
     where
@@ -139,7 +145,8 @@ index_place x i e id = ap (λ (y : BatchIndex). place_in (contribs_in y) id) e �
     go (refuse n) = refl
 
 -- what the place tells of the batch
-pub place_read : (x : Read (List ContribOf)) (id start n : ℕ) → place_of x id ≡ at_place start n → (cs : List ContribOf) × (c : ℕ) × (x ≡ value cs c) × (place_from 8 cs id ≡ at_place start n)
+pub place_read : (x : Read (List ContribOf)) (id start n : ℕ) → place_of x id ≡ at_place start n
+    → (cs : List ContribOf) × (c : ℕ) × (x ≡ value cs c) × (place_from 8 cs id ≡ at_place start n)
 place_read (value cs c) id start n p = (cs, c, refl, p)
 place_read (refuse k) id start n p = absurd (place_clash (sym p))
 
@@ -148,8 +155,11 @@ place_empty s (value cs c) id p = ((place_none 8 cs id p).1, ap (start_at s) p)
 place_empty s (refuse n) id p = (refl, refl)
 
 -- what an index tells of the reading that it came from
-indexed_done : (x : Read (List ContribOf)) (p : BatchIndex × ℕ) → done p ≡ indexed x → (cs : List ContribOf) × (c : ℕ) × (x ≡ value cs c) × (p.1 ≡ message_count cs) × (p.0 ≡ index_held (placed_in x))
-indexed_done (value cs c) p q = let e : p ≡ (index_held (placed_from 8 cs), message_count cs) = cc in (cs, c, refl, ap (λ (y : BatchIndex × ℕ). y.1) e, ap (λ (y : BatchIndex × ℕ). y.0) e)
+indexed_done : (x : Read (List ContribOf)) (p : BatchIndex × ℕ) → done p ≡ indexed x
+    → (cs : List ContribOf) × (c : ℕ) × (x ≡ value cs c) × (p.1 ≡ message_count cs) × (p.0 ≡ index_held (placed_in x))
+indexed_done (value cs c) p q =
+    let e : p ≡ (index_held (placed_from 8 cs), message_count cs) = cc in
+    (cs, c, refl, ap (λ (y : BatchIndex × ℕ). y.1) e, ap (λ (y : BatchIndex × ℕ). y.0) e)
 indexed_done (refuse k) p q = let z : ◌≡◌ {A = ℕ} 0 1 = cc in absurd (let y : ⊥ = omega arith in y)
 
 indexed_refused : (x : Read (List ContribOf)) (n : ℕ) → refused n ≡ indexed x → x ≡ refuse n
@@ -157,14 +167,16 @@ indexed_refused (value cs c) n p = let z : ◌≡◌ {A = ℕ} 0 1 = cc in absur
 indexed_refused (refuse k) n p = let e : k ≡ n = cc in ap refuse e
 
 module _ (x : Read (List ContribOf)) (r : Result (BatchIndex × ℕ) Refusal) (e : Indexed r x) where
-  pub check_value : (i : BatchIndex) (n : ℕ) → r ≡ Ok (i, n) → (cs : List ContribOf) × (c : ℕ) × (x ≡ value cs c) × (n ≡ message_count cs) × (i ≡ index_held (placed_in x))
+  pub check_value : (i : BatchIndex) (n : ℕ) → r ≡ Ok (i, n)
+      → (cs : List ContribOf) × (c : ℕ) × (x ≡ value cs c) × (n ≡ message_count cs) × (i ≡ index_held (placed_in x))
   check_value i n q = indexed_done x (i, n) (sym (ap (outcome_as_said (λ (p : BatchIndex × ℕ). p)) q) ∙ e)
 
   pub check_refuse : (k : Refusal) → r ≡ Err k → x ≡ refuse (row_number k)
   check_refuse k q = indexed_refused x (row_number k) (sym (ap (outcome_as_said (λ (p : BatchIndex × ℕ). p)) q) ∙ e)
 
   -- the place that is found by it is the batch's
-  pub check_place : (i : BatchIndex) (n : ℕ) → r ≡ Ok (i, n) → (o : Option (ℕ × ℕ)) (id : ℕ) → said_place o ≡ place_in (contribs_in i) id → (p : Place) → said_place o ≡ p → place_of x id ≡ p
+  pub check_place : (i : BatchIndex) (n : ℕ) → r ≡ Ok (i, n) → (o : Option Span) (id : ℕ) → said_place o ≡ place_in (contribs_in i) id
+      → (p : Place) → said_place o ≡ p → place_of x id ≡ p
   check_place i n q o id f p g = sym (index_place x i (check_value i n q).4 id) ∙ sym f ∙ g
 
 -- a place found in an accepted batch lies within it, and the node's user bytes stand there
@@ -187,7 +199,25 @@ module _ (z : Sizes) (nodes-fit : z.nodes < 256 ^ 8) (rows_fit : z.rows < 256 ^ 
   place_told s b id start n p =
       let w = place_read (read_batch z s) id start n p in
       let g = batch_shows s b w.0 w.1 id start n w.2 w.3 in
-      (g.0, g.1 ∙ ap (λ (y : Read (List ContribOf)). user_of y id) (sym w.2), ap (start_at s) (sym w.3) ∙ ap (λ (y : Read (List ContribOf)). start_in s y id) (sym w.2))
+      let user = g.1 ∙ ap (λ (y : Read (List ContribOf)). user_of y id) (sym w.2) in
+      let from = ap (start_at s) (sym w.3) ∙ ap (λ (y : Read (List ContribOf)). start_in s y id) (sym w.2) in
+      (g.0, user, from)
+
+-- where a node's user bytes stand, by the look-up in an index: within the batch, or no bytes at its end
+module _ (s : List ℕ) (bytes : Bytes s) (r : Result (BatchIndex × ℕ) Refusal) (e : Indexed r (read_batch base s))
+    (i : BatchIndex) (n : ℕ) (q : r ≡ Ok (i, n)) (id : ℕ) where
+  abbrev Stood : Span → Type 0
+  Stood u = (u.at + u.count ≤ length s) × (take u.count (drop u.at s) ≡ user_of (read_batch base s) id) × (u.at ≡ start_in s (read_batch base s) id)
+
+  stood : (o : Option Span) → said_place o ≡ place_in (contribs_in i) id → Stood (unwrap_or o (record { at = length s; count = 0 }))
+  stood (Some x) f = place_told base (lit< tt) (lit< tt) (lit< tt) s bytes id x.at x.count (check_place (read_batch base s) r e i n q (Some x) id f _ refl)
+  stood None f =
+      let p = place_empty s (read_batch base s) id (check_place (read_batch base s) r e i n q None id f _ refl) in
+      (omega arith, sym p.0, sym p.1)
+
+  pub span_stands : (o : Option Span) → said_place o ≡ place_in (contribs_in i) id
+      → (u : Span) → u ≡ unwrap_or o (record { at = length s; count = 0 }) → Stood u
+  span_stands o f u w = subst Stood (sym w) (stood o f)
 
 -- the companion, by the place that the batch has
 pub has_place : (x : Read (List ContribOf)) (id start n : ℕ) → place_of x id ≡ at_place start n → done true ≡ contributed x id

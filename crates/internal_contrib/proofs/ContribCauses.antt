@@ -86,7 +86,8 @@ module _ (z : Sizes) (nodes-fit : z.nodes < 256 ^ 8) (rows_fit : z.rows < 256 ^ 
   pub contribs_causes : Causes s (read_contribs z s) (contribs_wrong z s)
   unfolding read_contribs
   contribs_causes =
-      counted_causes s (read_contrib z s) spending contrib_bytes (ContribOk z) (contrib_codes z nodes-fit rows_fit user-fits s) (opening z) (contrib_wrong z s) contrib_causes
+      counted_causes s (read_contrib z s) spending contrib_bytes (ContribOk z) (contrib_codes z nodes-fit rows_fit user-fits s)
+      (opening z) (contrib_wrong z s) contrib_causes
       fixed Short (fixed_codes s) (fixed_causes s) z.nodes (λ n. z.nodes < n) (λ n. (λ l. l, λ l. l)) count_over refl
 
   pub batch_causes : Caused s (read_batch z s) (batch_wrong z s)

@@ -121,14 +121,16 @@ module _ (z : Sizes) (nodes-fit : z.nodes < 256 ^ 8) (rows_fit : z.rows < 256 ^ 
       restate
       (λ x o. (o.0, (o.1.0.0, rw o.0.1 o.1.0.1, o.1.0.2)))
       (λ x o. (o.0, ((o.1.0, rw o.0.1 at o.1.1, o.1.2), tt)))
-      (field {H = λ x. ((Unit {0} × (x.id ≡ id)) × (x.user ≡ user)) × (x.messages ≡ messages)} (λ x. x.votes) (votes_codes s z nodes-fit (b.left - length messages)) λ votes.
+      (field {H = λ x. ((Unit {0} × (x.id ≡ id)) × (x.user ≡ user)) × (x.messages ≡ messages)} (λ x. x.votes)
+      (votes_codes s z nodes-fit (b.left - length messages)) λ votes.
       ended (record { id = id; user = user; messages = messages; votes = votes }) ((((tt, refl), refl), refl), refl)
       (λ x h. λ i. record { id = h.0.0.0.1 i; user = h.0.0.1 i; messages = h.0.1 i; votes = h.1 i }))))
       (λ x o. rw (← o.0.1) (le-ltb x.id b.low o.1.0)))
 
   pub contribs_codes : (s : List ℕ) → Codes s (read_contribs z s) batch_bytes (λ cs. (length cs ≤ z.nodes) × Each spending (ContribOk z) (opening z) cs)
   unfolding read_contribs batch_bytes
-  contribs_codes s = counted_codes s (read_contrib z s) spending contrib_bytes (ContribOk z) (contrib_codes s) fixed (fixed_codes s) z.nodes nodes-fit (opening z)
+  contribs_codes s =
+      counted_codes s (read_contrib z s) spending contrib_bytes (ContribOk z) (contrib_codes s) fixed (fixed_codes s) z.nodes nodes-fit (opening z)
 
   -- a batch has just one accepted encoding, and is accepted as itself
   pub batch_one_encoding : (s : List ℕ) (cs : List ContribOf) (c : ℕ) → Bytes s → read_batch z s ≡ value cs c → (s ≡ batch_bytes cs) × BatchOk z cs

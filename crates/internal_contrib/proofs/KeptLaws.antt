@@ -24,7 +24,8 @@ use Rattle.internal_contrib.proofs.PartLaws.{batch_count}
 
 module _ (z : Sizes) (nodes-fit : z.nodes < 256 ^ 8) (rows_fit : z.rows < 256 ^ 8) (user-fits : z.user < 256 ^ 8) (s : List ℕ) (bytes : Bytes s) where
   -- contributions that are read one behind the other
-  items_kept : (n : ℕ) (b : Budget) (at : ℕ) (cs : List ContribOf) (c : ℕ) → items (read_contrib z s) spending n b at ≡ value cs c → EachKept z s (placed_from at cs) cs
+  items_kept : (n : ℕ) (b : Budget) (at : ℕ) (cs : List ContribOf) (c : ℕ)
+      → items (read_contrib z s) spending n b at ≡ value cs c → EachKept z s (placed_from at cs) cs
   unfolding items placed_from
   items_kept zero b at cs c e = let q : [] ≡ cs = cc in subst (λ (xs : List ContribOf). EachKept z s (placed_from at xs) xs) q tt
   items_kept (suc n) b at cs c e =
@@ -70,6 +71,7 @@ module _ (z : Sizes) (s : List ℕ) where
   kept_length (k ∷ ks) (x ∷ cs) h = ap suc (kept_length ks cs h.1)
 
   -- the struct that holds places of contributions stands for just these
-  pub held_index : (x : BatchIndex) (cs : List ContribOf) → x ≡ index_held (placed_from 8 cs) → EachKept z s (placed_from 8 cs) cs → EachKept z s (contribs_in x) cs
+  pub held_index : (x : BatchIndex) (cs : List ContribOf)
+      → x ≡ index_held (placed_from 8 cs) → EachKept z s (placed_from 8 cs) cs → EachKept z s (contribs_in x) cs
   held_index x cs e h =
       subst (λ (ks : List Contrib). EachKept z s ks cs) (sym (ap contribs_in e ∙ take_padded base.nodes no_contrib (placed_from 8 cs))) h

@@ -32,11 +32,13 @@ module _ (id : ℕ) (c : ContribOf) (own : c.id ≡ id) (behind : List ContribOf
   has_behind [] h = rw (eq-eqb c.id id own)
   has_behind (x ∷ before) h = rw (ne_eqb x.id id h.0) (has_behind before h.1)
 
-  place_behind : (at : ℕ) (before : List ContribOf) → OthersOnly id before → place_from at (before ++ (c ∷ behind)) id ≡ at_place (at + length (concat_map contrib_bytes before) + 12) (length c.user)
+  place_behind : (at : ℕ) (before : List ContribOf) → OthersOnly id before
+      → place_from at (before ++ (c ∷ behind)) id ≡ at_place (at + length (concat_map contrib_bytes before) + 12) (length c.user)
   unfolding place_from
   place_behind at [] h = rw (add-zero at, eq-eqb c.id id own)
   place_behind at (x ∷ before) h =
-      let e : at + length (contrib_bytes x) + length (concat_map contrib_bytes before) ≡ at + length (contrib_bytes x ++ concat_map contrib_bytes before) = simp length-append (omega arith) in
+      let e : at + length (contrib_bytes x) + length (concat_map contrib_bytes before) ≡ at + length (contrib_bytes x ++ concat_map contrib_bytes before)
+      = simp length-append (omega arith) in
       rw (ne_eqb x.id id h.0, ← e) (place_behind (at + length (contrib_bytes x)) before h.1)
 
   module _ (before : List ContribOf) (others : OthersOnly id before) (end : ℕ) where
@@ -53,10 +55,12 @@ module _ (id : ℕ) (c : ContribOf) (own : c.id ≡ id) (behind : List ContribOf
     look_up_starts s = rw (place_behind 8 before others)
 
     -- "as a part of the batch lent in": they stand there as they are shown
-    pub part_of_batch : (z : Sizes) → z.nodes < 256 ^ 8 → z.rows < 256 ^ 8 → z.user < 256 ^ 8 → (s : List ℕ) → Bytes s → read_batch z s ≡ value (before ++ (c ∷ behind)) end
+    pub part_of_batch : (z : Sizes) → z.nodes < 256 ^ 8 → z.rows < 256 ^ 8 → z.user < 256 ^ 8 → (s : List ℕ) → Bytes s
+        → read_batch z s ≡ value (before ++ (c ∷ behind)) end
         → take (length c.user) (drop (8 + length (concat_map contrib_bytes before) + 12) s) ≡ c.user
     part_of_batch z nodes rows user s bytes r =
-        (batch_shows z nodes rows user s bytes (before ++ (c ∷ behind)) end id (8 + length (concat_map contrib_bytes before) + 12) (length c.user) r (place_behind 8 before others)).1
+        (batch_shows z nodes rows user s bytes (before ++ (c ∷ behind)) end id (8 + length (concat_map contrib_bytes before) + 12) (length c.user) r
+        (place_behind 8 before others)).1
         ∙ user_behind before others
 
 -- "without such a contribution, .. it is the empty part at the end, and a companion call answers .. no"

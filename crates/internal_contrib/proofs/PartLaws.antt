@@ -1,25 +1,25 @@
 -- An accepted contribution, and an accepted batch: where their items stand behind a count, and that they are read there.
 -- Assumes nothing.
 use Prim.Native.Nat.{ℕ, ◌+◌, ◌-◌, ◌^◌, ◌≤◌, ◌<◌}
-use mathlib.Core.Path.{◌≡◌, sym, ap, ◌∙◌, subst}
+use mathlib.Core.Path.{◌≡◌, sym, ◌∙◌, subst}
 use mathlib.Core.List.{List}
 use native.Mathlib.Omega.{arith}
 use lib.Dec.{ltb}
 use lib.ListN.{length}
-use Rattle.bincode.specs.Read.{value, refuse, whole}
+use Rattle.bincode.specs.Read.{value, whole}
 use Rattle.bincode.specs.Numbers.{read_num}
 use Rattle.bincode.specs.Items.{items, many}
 use Rattle.bincode.specs.Sizes.{Sizes}
 use Rattle.bincode.specs.Stands.{Bytes}
 use Rattle.bincode.proofs.NumberLaws.{read_value}
-use Rattle.bincode.proofs.ReadLaws.{clash, same_next, same_value, bind_value, cond_value}
+use Rattle.bincode.proofs.ReadLaws.{bind_value, cond_value}
 use Rattle.bincode.proofs.RereadLaws.{counted_count, counted_items}
 use Rattle.votes.specs.Votes.{SignedVoteOf, read_signed_vote}
 use Rattle.key_gen_message.specs.KeyGenMessage.{SignedKeyGenMsgOf, read_signed_key_gen_msg}
 use Rattle.internal_contrib.specs.declared.Budget.{Budget}
 use Rattle.internal_contrib.specs.declared.Contrib.{Contrib}
 use Rattle.internal_contrib.specs.InternalContrib.{ContribOf, read_user, read_messages, read_votes, read_contrib, read_contribs, read_batch, spending, opening, user_bytes, messages_bytes}
-use Rattle.internal_contrib.specs.Places.{placed, spent}
+use Rattle.internal_contrib.specs.Places.{placed}
 use Rattle.internal_contrib.proofs.ContribCodes.{user_codes, messages_codes}
 
 -- the fields of a contribution that was read, one behind the other
@@ -49,7 +49,8 @@ module _ (z : Sizes) (s : List ℕ) (b : Budget) (at : ℕ) (x : ContribOf) (c :
 
   -- votes and messages are read again eight bytes behind where code keeps their counts, and those places lie within the bytes
   module _ (rows_fit : z.rows < 256 ^ 8) (user-fits : z.user < 256 ^ 8) (bytes : Bytes s) where
-    messages_stand : (d : ℕ) × (many (read_signed_key_gen_msg z s) (placed at x).message_count ((placed at x).messages + 8) ≡ value x.messages d) × ((placed at x).messages ≤ length s)
+    messages_stand : (d : ℕ) × (many (read_signed_key_gen_msg z s) (placed at x).messages.count ((placed at x).messages.at + 8) ≡ value x.messages d)
+        × ((placed at x).messages.at ≤ length s)
     unfolding read_messages
     messages_stand =
         let p = contrib_fields in
@@ -57,7 +58,7 @@ module _ (z : Sizes) (s : List ℕ) (b : Budget) (at : ℕ) (x : ContribOf) (c :
         let q = counted_items _ _ s b.left tt p.0 x.messages p.1 p.3 in
         (p.1, (λ j. many (read_signed_key_gen_msg z s) (length x.messages) (sym k j + 8)) ∙ q.0, omega (arith, q.1, k))
 
-    votes_stand : (many (read_signed_vote z s) (placed at x).vote_count ((placed at x).votes + 8) ≡ value x.votes c) × ((placed at x).votes ≤ length s)
+    votes_stand : (many (read_signed_vote z s) (placed at x).votes.count ((placed at x).votes.at + 8) ≡ value x.votes c) × ((placed at x).votes.at ≤ length s)
     unfolding read_votes
     votes_stand =
         let p = contrib_fields in
@@ -69,17 +70,17 @@ module _ (z : Sizes) (s : List ℕ) (b : Budget) (at : ℕ) (x : ContribOf) (c :
 
     -- the same by what code keeps
     module _ (k : Contrib) (q : k ≡ placed at x) where
-      pub messages_again : (d : ℕ) × (many (read_signed_key_gen_msg z s) k.message_count (k.messages + 8) ≡ value x.messages d)
-      messages_again = (messages_stand.0, (λ j. many (read_signed_key_gen_msg z s) (q j).message_count ((q j).messages + 8)) ∙ messages_stand.1)
+      pub messages_again : (d : ℕ) × (many (read_signed_key_gen_msg z s) k.messages.count (k.messages.at + 8) ≡ value x.messages d)
+      messages_again = (messages_stand.0, (λ j. many (read_signed_key_gen_msg z s) (q j).messages.count ((q j).messages.at + 8)) ∙ messages_stand.1)
 
-      pub votes_again : many (read_signed_vote z s) k.vote_count (k.votes + 8) ≡ value x.votes c
-      votes_again = (λ j. many (read_signed_vote z s) (q j).vote_count ((q j).votes + 8)) ∙ votes_stand.0
+      pub votes_again : many (read_signed_vote z s) k.votes.count (k.votes.at + 8) ≡ value x.votes c
+      votes_again = (λ j. many (read_signed_vote z s) (q j).votes.count ((q j).votes.at + 8)) ∙ votes_stand.0
 
-      pub messages_within : k.messages ≤ length s
-      messages_within = subst (λ (y : Contrib). y.messages ≤ length s) (sym q) messages_stand.2
+      pub messages_within : k.messages.at ≤ length s
+      messages_within = subst (λ (y : Contrib). y.messages.at ≤ length s) (sym q) messages_stand.2
 
-      pub votes_within : k.votes ≤ length s
-      votes_within = subst (λ (y : Contrib). y.votes ≤ length s) (sym q) votes_stand.1
+      pub votes_within : k.votes.at ≤ length s
+      votes_within = subst (λ (y : Contrib). y.votes.at ≤ length s) (sym q) votes_stand.1
 
 -- a batch that was read is a count, and as many contributions behind it
 module _ (z : Sizes) (s : List ℕ) (cs : List ContribOf) (c : ℕ) (e : read_batch z s ≡ value cs c) where
@@ -90,17 +91,3 @@ module _ (z : Sizes) (s : List ℕ) (cs : List ContribOf) (c : ℕ) (e : read_ba
       let b = bind_value (read_contribs z s 0) _ a in
       let d = (cond_value (value b.0 b.1) (ltb b.1 (length s)) 2 b.3).1 in
       counted_count (read_contrib z s) spending s z.nodes (opening z) 0 cs c (b.2 ∙ d)
-
-  pub batch_counted : (k : ℕ) → read_num 8 s 0 ≡ refuse k → ⊥
-  batch_counted k r = clash (read_num 8 s 0) batch_count.2 r
-
-  pub batch_items : (n d : ℕ) → read_num 8 s 0 ≡ value n d → items (read_contrib z s) spending n (opening z) d ≡ value cs c
-  batch_items n d r =
-      let p : n ≡ batch_count.0 = same_value (read_num 8 s 0) r batch_count.2 in
-      let q : d ≡ batch_count.1 = same_next (read_num 8 s 0) r batch_count.2 in
-      (λ j. items (read_contrib z s) spending (p j) (opening z) (q j)) ∙ batch_count.3
-
--- what a contribution leaves to those behind it, by what code keeps
-pub spent_placed : (b b' : Budget) (k : Contrib) (at : ℕ) (x : ContribOf) → b' ≡ spent b k → placed at x ≡ k → b' ≡ spending b x
-unfolding spending
-spent_placed b b' k at x e q = e ∙ ap (spent b) (sym q)

@@ -23,7 +23,8 @@ module _ (z : Sizes) (s : List ℕ) where
   -- a count of messages, or of votes: with the votes and messages before it, it does not exceed the batch's size
   module _ (before : ℕ) where
     abbrev pub messages_wrong : Wrong
-    messages_wrong = Counted fixed Short s key_gen.signed_bytes (λ n. z.items < before + n) total_over (All (key_gen.SignedOk z)) (λ xs. message.signed_wrong z s)
+    messages_wrong =
+        Counted fixed Short s key_gen.signed_bytes (λ n. z.items < before + n) total_over (All (key_gen.SignedOk z)) (λ xs. message.signed_wrong z s)
 
     abbrev pub votes_wrong : Wrong
     votes_wrong = Counted fixed Short s votes.signed_bytes (λ n. z.items < before + n) total_over (All (votes.SignedVoteOk z)) (λ xs. vote.signed_wrong z s)

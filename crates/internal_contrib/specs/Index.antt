@@ -13,14 +13,18 @@ use Rattle.internal_contrib.specs.Places.{placed, Place, at_place, no_place, mes
 use Rattle.internal_contrib.specs.declared.Budget.{Budget}
 use Rattle.internal_contrib.specs.declared.Contrib.{Contrib}
 use Rattle.internal_contrib.specs.declared.BatchIndex.{BatchIndex}
+use Rattle.internal_contrib.specs.declared.Span.{Span}
 
 -- the contributions of any value of the struct: those below the count, as far as the array reaches
 abbrev pub contribs_in : BatchIndex → List Contrib
 contribs_in x = items_in x.contribs
 
 -- the struct that holds a list of them: unused places are zero
+abbrev pub no_span : Span
+no_span = record { at = 0; count = 0 }
+
 abbrev pub no_contrib : Contrib
-no_contrib = record { id = 0; user = 0; user_count = 0; messages = 0; message_count = 0; votes = 0; vote_count = 0 }
+no_contrib = record { id = 0; user = no_span; messages = no_span; votes = no_span }
 
 abbrev pub index_held : List Contrib → BatchIndex
 index_held ks = record { contribs = record { count = length ks; items = padded base.nodes no_contrib ks } }
@@ -48,7 +52,7 @@ abbrev pub contrib_id : Contrib → ℕ
 contrib_id k = k.id
 
 abbrev pub place_by : Found Contrib → Place
-place_by (found k) = at_place k.user k.user_count
+place_by (found k) = at_place k.user.at k.user.count
 place_by nothing = no_place
 
 abbrev pub place_in : List Contrib → ℕ → Place

@@ -7,23 +7,25 @@ use Rattle.bincode.specs.Items.{foldl}
 use Rattle.internal_contrib.specs.InternalContrib.{ContribOf, user_bytes, messages_bytes, contrib_bytes}
 use Rattle.internal_contrib.specs.declared.Budget.{Budget}
 use Rattle.internal_contrib.specs.declared.Contrib.{Contrib}
+use Rattle.internal_contrib.specs.declared.Span.{Span}
+
+-- a list of something that stands at a position
+abbrev pub span_of : {A : Type 0} → ℕ → List A → Span
+span_of at xs = record { at = at; count = length xs }
 
 -- a contribution that stands at a position: four bytes of id, a count of eight, the user bytes, the messages, the votes
 abbrev pub placed : ℕ → ContribOf → Contrib
 placed at c =
     record {
       id = c.id;
-      user = at + 12;
-      user_count = length c.user;
-      messages = at + 4 + length (user_bytes c.user);
-      message_count = length c.messages;
-      votes = at + 4 + length (user_bytes c.user) + length (messages_bytes c.messages);
-      vote_count = length c.votes;
+      user = span_of (at + 12) c.user;
+      messages = span_of (at + 4 + length (user_bytes c.user)) c.messages;
+      votes = span_of (at + 4 + length (user_bytes c.user) + length (messages_bytes c.messages)) c.votes;
     }
 
 -- `spending` on what code keeps
 abbrev pub spent : Budget → Contrib → Budget
-spent b c = record { low = c.id + 1; left = b.left - c.message_count - c.vote_count }
+spent b c = record { low = c.id + 1; left = b.left - c.messages.count - c.votes.count }
 
 -- the user bytes' place in a batch: start and count, or none
 pub data Place : Type 0 where
@@ -76,6 +78,6 @@ checked (value cs c) = done (message_count cs)
 checked (refuse n) = refused n
 
 -- a place as code answers it
-abbrev pub said_place : Option (ℕ × ℕ) → Place
-said_place (Some (start, n)) = at_place start n
+abbrev pub said_place : Option Span → Place
+said_place (Some x) = at_place x.at x.count
 said_place None = no_place

@@ -1,16 +1,17 @@
 // mod.rs: `InternalContrib`, and a batch of them. There is no heap, so a contribution is kept as the places of its parts, to be read again.
 #![tactic(auto)]
 
-ghost use Rattle.std.specs.Prelude.{ℕ, ◌≡◌, List, [], ◌≤◌, Bool, length};
+ghost use Rattle.std.specs.Prelude.{ℕ, ◌≡◌, ◌+◌, List, [], ◌≤◌, ◌<◌, Bool, length, take, drop};
 ghost use Rattle.bincode.specs.Read.{Read};
 ghost use Rattle.bincode.specs.Numbers.{fixed};
 ghost use Rattle.bincode.specs.Items.{counted, plain, stay, many};
 ghost use Rattle.bincode.specs.Answer.{answer, step_of, outcome_as_said};
 ghost use Rattle.bincode.specs.Sizes.{base};
+ghost use Rattle.bincode.specs.Stands.{Bytes};
 ghost use Rattle.votes.specs.Votes.{SignedVoteOf, read_signed_vote};
 ghost use Rattle.key_gen_message.specs.KeyGenMessage.{SignedKeyGenMsgOf, read_signed_key_gen_msg};
 ghost use Rattle.internal_contrib.specs.InternalContrib.{read_user, read_contrib, read_batch};
-ghost use Rattle.internal_contrib.specs.Places.{placed, spent, said_place, checked, contributed, user_of, start_of};
+ghost use Rattle.internal_contrib.specs.Places.{span_of, placed, spent, said_place, checked, contributed, user_of, start_in, start_of};
 ghost use Rattle.internal_contrib.specs.Index.{contribs_in, contrib_id, index_held, place_in, Indexed};
 
 use array_list::{ArrayList, Keyed};
@@ -18,16 +19,20 @@ use bincode::Refusal;
 use key_gen_message::MessageHead;
 use votes::VoteHead;
 
+// Where something of which there are many stands in a batch's bytes, and how many there are.
+#[derive(Clone, Copy)]
+pub struct Span {
+    pub at: usize,
+    pub count: u64,
+}
+
 // Where the parts of a contribution stand: its user bytes, and the counts of its messages and of its votes.
 #[derive(Clone, Copy)]
 pub struct Contrib {
     pub id: u32,
-    pub user: usize,
-    pub user_count: u64,
-    pub messages: usize,
-    pub message_count: u64,
-    pub votes: usize,
-    pub vote_count: u64,
+    pub user: Span,
+    pub messages: Span,
+    pub votes: Span,
 }
 
 impl Contrib {
@@ -77,25 +82,21 @@ impl Budget {
             low: u64::from(c.id) + 1,
             left: self
                 .left
-                .saturating_sub(c.message_count)
-                .saturating_sub(c.vote_count),
+                .saturating_sub(c.messages.count)
+                .saturating_sub(c.votes.count),
         }
     }
 }
 
-// How many user bytes there are, with the position behind them.
-fn read_user(s: &[u8], at: usize) -> Result<(u64, usize), Refusal>
-    ensures { result ≡ answer length (read_user base s.now at) }
+// Where the user bytes stand, behind their count; with the position behind them.
+#[tactic(auto, using(crate::proofs::ContribLaws::user_short, crate::proofs::ContribLaws::user_whole), unfolding(crate::specs::InternalContrib::read_user, bincode::specs::Items::read_count))]
+fn read_user(s: &[u8], at: usize) -> Result<(Span, usize), Refusal>
+    ensures { result ≡ answer (span_of (at + 8)) (read_user base s.now at) }
 {
-    let Ok((n, c)) = bincode::read_u64(s, at) else {
-        return Err(Refusal::Malformed);
-    };
-    if Contrib::USER < n {
-        return Err(Refusal::TooLarge);
-    }
+    let (n, c) = bincode::read_count(s, at, Contrib::USER)?;
     let len = n as usize;
     if bincode::room(s.len(), c, len) {
-        Ok((n, c + len))
+        Ok((Span { at: c, count: n }, c + len))
     } else {
         Err(Refusal::Malformed)
     }
@@ -147,21 +148,18 @@ fn pass_items<T: Item>(s: &[u8], at: usize, n: u64) -> Result<usize, Refusal>
     Ok(c)
 }
 
-// How many items there are, with the position behind them.
-fn read_items<T: Item>(s: &[u8], at: usize, left: u64) -> Result<(u64, usize), Refusal>
-    ensures { result ≡ answer length (counted (plain (T.read_at s.now)) stay fixed s.now left tt at) }
+// Where items stand, their count first; with the position behind them.
+#[tactic(auto, unfolding(bincode::specs::Items::counted, bincode::specs::Items::read_count))]
+fn read_items<T: Item>(s: &[u8], at: usize, left: u64) -> Result<(Span, usize), Refusal>
+    ensures { result ≡ answer (span_of at) (counted (plain (T.read_at s.now)) stay fixed s.now left tt at) }
 {
-    let Ok((n, c)) = bincode::read_u64(s, at) else {
-        return Err(Refusal::Malformed);
-    };
-    if left < n {
-        return Err(Refusal::TooLarge);
-    }
+    let (n, c) = bincode::read_count(s, at, left)?;
     let d = pass_items::<T>(s, c, n)?;
-    Ok((n, d))
+    Ok((Span { at, count: n }, d))
 }
 
 // A contribution: the places of its parts, every item of it read once.
+#[tactic(auto, using(bincode::proofs::NumberLaws::read_refused), unfolding(crate::specs::InternalContrib::read_contrib))]
 pub fn read_contrib(s: &[u8], at: usize, b: Budget) -> Result<(Contrib, usize), Refusal>
     ensures { result ≡ answer (placed at) (read_contrib base s.now b at) }
 {
@@ -171,18 +169,15 @@ pub fn read_contrib(s: &[u8], at: usize, b: Budget) -> Result<(Contrib, usize), 
     if u64::from(id) < b.low {
         return Err(Refusal::Malformed);
     }
-    let (user_count, messages) = read_user(s, c)?;
-    let (message_count, votes) = read_items::<MessageHead>(s, messages, b.left)?;
-    let votes_left = b.left.saturating_sub(message_count);
-    let (vote_count, next) = read_items::<VoteHead>(s, votes, votes_left)?;
+    let (user, d) = read_user(s, c)?;
+    let (messages, e) = read_items::<MessageHead>(s, d, b.left)?;
+    let left = b.left.saturating_sub(messages.count);
+    let (votes, next) = read_items::<VoteHead>(s, e, left)?;
     let contrib = Contrib {
         id,
-        user: c + 8,
-        user_count,
+        user,
         messages,
-        message_count,
         votes,
-        vote_count,
     };
     Ok((contrib, next))
 }
@@ -200,14 +195,12 @@ impl BatchIndex {
     pub fn empty() -> Self
         ensures { result ≡ index_held [] }
     {
+        let nowhere = Span { at: 0, count: 0 };
         let none = Contrib {
             id: 0,
-            user: 0,
-            user_count: 0,
-            messages: 0,
-            message_count: 0,
-            votes: 0,
-            vote_count: 0,
+            user: nowhere,
+            messages: nowhere,
+            votes: nowhere,
         };
         BatchIndex {
             contribs: ArrayList::empty(none),
@@ -221,37 +214,32 @@ impl BatchIndex {
         self.contribs.len()
     }
 
-    // Where the user bytes of a node's contribution start and how many they are, if it has one; ids ascend, so it has no other.
-    pub fn place_of(self, id: u32) -> Option<(usize, u64)>
+    // Where the user bytes of a node's contribution stand, if it has one; ids ascend, so it has no other.
+    pub fn place_of(self, id: u32) -> Option<Span>
         ensures { said_place result ≡ place_in (contribs_in self) id }
     {
-        self.contribs.get(id).map(|c| (c.user, c.user_count))
+        self.contribs.get(id).map(|c| c.user)
     }
 }
 
 // Reads a whole batch once: it refuses (rows 2 and 3), or notes where each contribution's parts stand and how many key-generation messages there are.
+#[tactic(auto, using(crate::proofs::BatchLaws::batch_long))]
 pub fn index_batch(s: &[u8]) -> Result<(BatchIndex, u64), Refusal>
     ensures { Indexed result (read_batch base s.now) }
 {
     if Budget::BYTES < s.len() {
         return Err(Refusal::TooLarge); // the whole length
     }
-    let Ok((n, first)) = bincode::read_u64(s, 0) else {
-        return Err(Refusal::Malformed);
-    };
-    if Budget::CONTRIBS < n {
-        return Err(Refusal::TooLarge); // a count over its size
-    }
+    let (n, first) = bincode::read_count(s, 0, Budget::CONTRIBS)?;
     let count = n as usize;
-    let none = BatchIndex::empty();
-    let mut contribs = none.contribs.items;
+    let mut contribs = BatchIndex::empty().contribs.items;
     let mut b = Budget::new();
     let mut messages: u64 = 0;
     let mut c = first;
-    for i in 0..count {
+    for place in contribs[..count].iter_mut() {
         let (e, next) = read_contrib(s, c, b)?;
-        contribs[i] = e;
-        messages += e.message_count;
+        *place = e;
+        messages += e.messages.count;
         b = b.spend(e);
         c = next;
     }
@@ -274,6 +262,7 @@ pub fn check_batch(s: &[u8]) -> Result<u64, Refusal>
 }
 
 // Whether a batch has a contribution of a node, or the batch's refusal.
+#[tactic(auto, using(crate::proofs::BatchLaws::check_value, crate::proofs::BatchLaws::index_place, crate::proofs::BatchLaws::has_place, crate::proofs::BatchLaws::has_none))]
 pub fn has_contrib(s: &[u8], id: u32) -> Result<bool, Refusal>
     ensures { outcome_as_said (λ (x : Bool). x) result ≡ contributed (read_batch base s.now) id }
 {
@@ -281,17 +270,38 @@ pub fn has_contrib(s: &[u8], id: u32) -> Result<bool, Refusal>
     Ok(index.place_of(id).is_some())
 }
 
+// Where a node's user bytes stand in a batch; without such a contribution, or where reading refuses, no bytes at its end.
+fn user_span(s: &[u8], id: u32) -> Span
+    ensures { (result.at + result.count ≤ length s.now) × (take result.count (drop result.at s.now) ≡ user_of (read_batch base s.now) id)
+        × (result.at ≡ start_in s.now (read_batch base s.now) id) }
+{
+    let end = Span {
+        at: s.len(),
+        count: 0,
+    };
+    match index_batch(s) {
+        Ok((index, _)) => index.place_of(id).unwrap_or(end),
+        Err(_) => end,
+    }
+}
+
 // A node's user bytes as a part of the batch; without such a contribution, or where reading refuses, the empty part at the end.
 pub fn user_bytes(s: &[u8], id: u32) -> &[u8]
     ensures { (result.now ≡ user_of (read_batch base s.now) id) × (result.ref_ptr ≡ start_of s.entry.ref_ptr s.now (read_batch base s.now) id) }
 {
-    let n = s.len();
-    let Ok((index, _)) = index_batch(s) else {
-        return &s[n..n];
-    };
-    let Some((start, count)) = index.place_of(id) else {
-        return &s[n..n];
-    };
-    let end = start + count as usize;
-    &s[start..end]
+    let user = user_span(s, id);
+    &s[user.at..user.at + user.count as usize]
+}
+
+impl Span {
+    // Where items start whose count of eight bytes stands at the span's place; past the bytes it is that place, where nothing can be read. Each byte is one.
+    pub fn first_item(self, s: &[u8]) -> usize
+        ensures { (self.at ≤ length s.now → result ≡ self.at + 8) × (length s.now < self.at → result ≡ self.at) × Bytes s.now }
+    {
+        if self.at <= s.len() {
+            self.at + 8
+        } else {
+            self.at
+        }
+    }
 }

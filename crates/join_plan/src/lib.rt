@@ -2,13 +2,12 @@
 #![tactic(auto)]
 
 ghost use Rattle.std.specs.Prelude.{ℕ, ◌≡◌, ◌≤◌, length};
-ghost use Rattle.bincode.specs.Read.{whole};
-ghost use Rattle.bincode.specs.Answer.{answer, outcome_as_said};
+ghost use Rattle.bincode.specs.Answer.{outcome_as_said};
 ghost use Rattle.bincode.specs.Numbers.{fixed};
 ghost use Rattle.bincode.specs.Sizes.{base};
-ghost use Rattle.join_plan.specs.JoinPlan.{plan_of, plan_held, read_plan, plan_bytes, plan_written, plan_said};
+ghost use Rattle.join_plan.specs.JoinPlan.{PlanOf, plan_of, plan_held, read_plan, plan_bytes, plan_written, plan_said};
 
-use bincode::Refusal;
+use bincode::{Decoded, Encoded, Refusal};
 use change::ChangeState;
 use params::Params;
 use pub_key_map::PubKeyMap;
@@ -27,38 +26,37 @@ impl JoinPlan {
     pub const BYTES: usize = 448;
 }
 
-// A plan at a position.
-fn read_at(s: &[u8], at: usize) -> Result<(JoinPlan, usize), Refusal>
-    ensures { result ≡ answer plan_held (read_plan fixed base s.now at) }
-{
-    let Ok((era, a)) = bincode::read_u64(s, at) else {
-        return Err(Refusal::Malformed);
-    };
-    let (change, b) = change::read_state(s, a)?;
-    let (pub_keys, c) = pub_key_map::read_map(s, b)?;
-    let Ok((pub_key_set, d)) = bincode::read_u64(s, c) else {
-        return Err(Refusal::Malformed);
-    };
-    let (params, e) = params::read_params(s, d)?;
-    let plan = JoinPlan {
-        era,
-        change,
-        pub_keys,
-        pub_key_set,
-        params,
-    };
-    Ok((plan, e))
-}
+impl Decoded for JoinPlan {
+    ghost Value = { PlanOf };
 
-// A plan is a whole input: nothing may be left over.
-#[tactic(auto, using(bincode::proofs::AnswerLaws::all_read_whole))]
-pub fn read_plan(s: &[u8]) -> Result<(JoinPlan, usize), Refusal>
-    ensures { result ≡ answer plan_held (whole (read_plan fixed base s.now) s.now) }
-{
-    bincode::all_read(s, read_at(s, 0))
+    ghost held = { plan_held };
+
+    ghost read_at = { read_plan fixed base };
+
+    #[tactic(auto, using(bincode::proofs::NumberLaws::read_refused), unfolding(crate::specs::JoinPlan::read_plan))]
+    fn read(s: &[u8], at: usize) -> Result<(Self, usize), Refusal> {
+        let Ok((era, a)) = bincode::read_u64(s, at) else {
+            return Err(Refusal::Malformed);
+        };
+        let (change, b) = ChangeState::read(s, a)?;
+        let (pub_keys, c) = PubKeyMap::read(s, b)?;
+        let Ok((pub_key_set, d)) = bincode::read_u64(s, c) else {
+            return Err(Refusal::Malformed);
+        };
+        let (params, e) = Params::read(s, d)?;
+        let plan = JoinPlan {
+            era,
+            change,
+            pub_keys,
+            pub_key_set,
+            params,
+        };
+        Ok((plan, e))
+    }
 }
 
 // How many bytes a plan takes.
+#[tactic(auto, using(crate::proofs::PlanLaws::length_plan))]
 pub fn plan_size(p: JoinPlan) -> usize
     ensures { (result ≡ length (plan_bytes fixed (plan_of p))) × (result ≤ base.plan) }
 {
@@ -67,7 +65,21 @@ pub fn plan_size(p: JoinPlan) -> usize
         + params::params_size(p.params)
 }
 
+impl Encoded for JoinPlan {
+    ghost bytes = { λ p. plan_bytes fixed (plan_of p) };
+
+    fn size(&self) -> usize {
+        plan_size(*self)
+    }
+
+    fn write(&self, buf: &mut [u8], at: usize) -> usize {
+        let first = (self.era, self.change);
+        (first, self.pub_keys, self.pub_key_set, self.params).write(buf, at)
+    }
+}
+
 // The plan's bytes from the start of a buffer, and how many they are; row 1 where it is shorter than what is lent for a plan. Bytes behind the plan stay as they are.
+#[tactic(auto, using(bincode::proofs::WriteLaws::has_room), unfolding(crate::specs::JoinPlan::plan_written, crate::specs::JoinPlan::plan_said))]
 pub fn write_plan(buf: &mut [u8], p: JoinPlan) -> Result<usize, Refusal>
     ensures { (buf.new ≡ plan_written base buf.old (plan_of p)) × (outcome_as_said (λ (x : ℕ). x) result ≡ plan_said base buf.old (plan_of p)) }
 {
@@ -75,10 +87,6 @@ pub fn write_plan(buf: &mut [u8], p: JoinPlan) -> Result<usize, Refusal>
         return Err(Refusal::ShortBuffer);
     }
     let size = plan_size(p);
-    let a = bincode::write_u64(buf, 0, p.era);
-    let b = change::write_state(buf, a, p.change);
-    let c = pub_key_map::write_map(buf, b, p.pub_keys);
-    let d = bincode::write_u64(buf, c, p.pub_key_set);
-    params::write_params(buf, d, p.params);
+    p.write(buf, 0);
     Ok(size)
 }

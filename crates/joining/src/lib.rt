@@ -26,6 +26,7 @@ fn has_empty_progress(change: ChangeState) -> bool
 }
 
 // Row 8: the plan's map, or its in-progress map, is empty.
+#[tactic(auto, using(crate::proofs::StartLaws::empty_length), unfolding(crate::specs::Starting::join_row8))]
 fn has_empty_map(p: JoinPlan) -> bool
     ensures { result ≡ join_row8 (plan_of p) }
 {
@@ -46,6 +47,7 @@ fn has_other_change(p: JoinPlan) -> bool
 }
 
 // The rows behind reading, in order.
+#[tactic(auto, unfolding(crate::specs::Starting::join_plan, crate::specs::Starting::join_row9))]
 fn check_plan(our_id: u32, secret_key: u64, plan: JoinPlan) -> Result<JoinPlan, Refusal>
     ensures { outcome_as_said plan_of result ≡ join_plan our_id secret_key (plan_of plan) }
 {
@@ -66,6 +68,7 @@ fn check_plan(our_id: u32, secret_key: u64, plan: JoinPlan) -> Result<JoinPlan, 
 }
 
 // Joining: 1 for fewer places lent for due items than 01 says; 2 and 3 of the plan, then of the own key; 8; 9; 10. Else a plan that a node may start from.
+#[tactic(auto, using(join_plan::proofs::PlanLaws::held_plan), unfolding(crate::specs::Starting::join_checked))]
 pub fn check_joining(
     due_places: usize,
     our_id: u32,
@@ -77,11 +80,12 @@ pub fn check_joining(
     if due_places < DueList::LIMIT {
         return Err(Refusal::ShortBuffer);
     }
-    let (read, _) = join_plan::read_plan(plan)?;
+    let (read, _) = bincode::read_whole::<JoinPlan>(plan)?;
     check_plan(our_id, secret_key, read)
 }
 
 // Starting: 2 and 3 of the map, of the parameters, then of the own key; 8. Else a map and parameters that a node may start from.
+#[tactic(auto, using(crate::proofs::StartLaws::empty_length), unfolding(crate::specs::Starting::start_checked, crate::specs::Starting::start_map))]
 pub fn check_starting(
     secret_key: u64,
     map: &[u8],
@@ -89,8 +93,8 @@ pub fn check_starting(
 ) -> Result<(PubKeyMap, Params), Refusal>
     ensures { outcome_as_said start_of result ≡ start_checked base secret_key map.now params.now }
 {
-    let (pub_keys, _) = pub_key_map::read_whole_map(map)?;
-    let (read, _) = params::read_whole_params(params)?;
+    let (pub_keys, _) = bincode::read_whole::<PubKeyMap>(map)?;
+    let (read, _) = bincode::read_whole::<Params>(params)?;
     if secret_key == 0 {
         return Err(Refusal::Malformed);
     }

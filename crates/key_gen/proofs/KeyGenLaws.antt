@@ -18,10 +18,9 @@ use Rattle.bincode.specs.Sizes.{base}
 use Rattle.pub_key_map.specs.declared.PubKeyMap.{PubKeyMap}
 use Rattle.pub_key_map.specs.PubKeyMap.{nodes_of}
 use Rattle.network_info.specs.NetworkInfo.{node_index}
-use Rattle.network_info.proofs.IndexLaws.{index_within}
 use Rattle.key_gen.specs.declared.KeyGen.{KeyGen}
 use Rattle.key_gen.specs.declared.Proposal.{Proposal}
-use Rattle.key_gen.specs.KeyGen.{ProposalOf, KeyGenOf, Effect, quiet, indices, is_here, acked, proposal_at, by_proposer, parts_of, new_proposal, key_gen_of, fresh_held, with_parts, observes, complete, complete_in, complete_found, handled, row_effect, value_effect, record_part, record_ack}
+use Rattle.key_gen.specs.KeyGen.{ProposalOf, KeyGenOf, Effect, quiet, indices, is_here, acked, proposal_at, by_proposer, parts_of, new_proposal, key_gen_of, fresh_held, with_parts, observes, complete, complete_in, complete_found, threshold, node_ready, handled, row_effect, value_effect, record_part, record_ack}
 
 -- what a chain counts from a on: the marked elements
 module _ {A B : Type 0} (mark : A → Bool) (view : ℕ → A → B) where
@@ -121,9 +120,13 @@ module _ (ps : List (Option Proposal)) (i : ℕ) where
       → parts_of (set ps i (Some r)) ≡ insert by_proposer (acked q j good) (parts_of ps)
   part_acked r q j good h a = part_set r h ∙ ap (λ (x : ProposalOf). insert by_proposer x (parts_of ps)) a
 
--- a node of the map has a place in the array
-pub signer_place : (g : KeyGen) (id i : ℕ) → length g.pub_keys.nodes.items ≡ base.nodes → node_index (nodes_of g.pub_keys) id ≡ found i → i < base.nodes
-signer_place g id i k e = omega (arith, (index_within g.pub_keys.nodes.items g.pub_keys.nodes.count i id e).0)
+-- whether a complete part stands at the node's place, where it has one
+pub ready_held : (g : KeyGen) (id t : ℕ) (place : Option ℕ) (b : Bool) → option_as_found (λ (k : ℕ). k) place ≡ node_index (nodes_of g.pub_keys) id → t ≡ threshold (key_gen_of g)
+    → (place ≡ None → b ≡ false) → ((i : ℕ) → place ≡ Some i → b ≡ complete_in t (get_or g.proposals i None)) → b ≡ node_ready (key_gen_of g) id
+unfolding node_ready
+ready_held g id t None b n e absent there = rw (← n) (absent refl)
+ready_held g id t (Some i) b n e absent there =
+    rw (← n, part_lookup g.proposals i, ← e) (there i refl ∙ complete_found_at t i (get_or g.proposals i None))
 
 -- what is recorded, with what is told; an observer is told nothing
 module _ (g : KeyGenOf) (v : ℕ) (ps : List ProposalOf) (e : Effect) (b : Bool) (o : observes g ≡ b) where

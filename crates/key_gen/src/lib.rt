@@ -4,7 +4,6 @@
 ghost use Rattle.std.specs.Prelude.{◌≡◌, not, ℕ, ◌≤◌, ◌<◌, [], length};
 ghost use Rattle.lists.specs.Lists.{lookup};
 ghost use Rattle.bincode.specs.Sizes.{base};
-ghost use Rattle.util.specs.MaxFaulty.{max_faulty};
 ghost use Rattle.network_info.specs.NetworkInfo.{is_member};
 ghost use Rattle.pub_key_map.specs.PubKeyMap.{nodes_of};
 ghost use Rattle.sync_key_gen.specs.SyncKeyGen.{PartOf, AckOf, part_of, ack_of};
@@ -66,10 +65,7 @@ impl Proposal {
 fn is_complete_in(place: Option<Proposal>, threshold: usize) -> bool
     ensures { result ≡ complete_in threshold place }
 {
-    match place {
-        Some(p) => p.is_complete(threshold),
-        None => false,
-    }
+    place.is_some_and(|p| p.is_complete(threshold))
 }
 
 // The places of the proposers' parts, by ascending index.
@@ -132,14 +128,6 @@ impl KeyGen {
         }
     }
 
-    // t of the map.
-    fn threshold(self) -> usize
-        ensures { (result ≡ max_faulty (length (nodes_of self.pub_keys))) × (result ≤ base.nodes) }
-    {
-        let map = self.pub_keys;
-        util::max_faulty(map.len())
-    }
-
     pub fn observes(self) -> bool
         ensures { result ≡ not (is_member (nodes_of self.pub_keys) self.our_id) }
     {
@@ -150,7 +138,7 @@ impl KeyGen {
     pub fn count_complete(self) -> usize
         ensures { (result ≡ count_complete (key_gen_of self)) × (result ≤ base.nodes) }
     {
-        let t = self.threshold();
+        let t = network_info::num_faulty(self.pub_keys);
         self.proposals
             .iter()
             .filter(|p| is_complete_in(**p, t))
@@ -161,18 +149,17 @@ impl KeyGen {
     pub fn is_node_ready(self, proposer: u32) -> bool
         ensures { result ≡ node_ready (key_gen_of self) proposer }
     {
-        let t = self.threshold();
-        match network_info::node_index(self.pub_keys, proposer) {
-            Some(i) => is_complete_in(self.proposals[i], t),
-            None => false,
-        }
+        let t = network_info::num_faulty(self.pub_keys);
+        network_info::node_index(self.pub_keys, proposer)
+            .and_then(|i| self.proposals.get(i))
+            .is_some_and(|place| is_complete_in(*place, t))
     }
 
     // `SyncKeyGen::is_ready`: more than t parts are complete.
     pub fn is_enough(self) -> bool
         ensures { result ≡ enough (key_gen_of self) }
     {
-        self.threshold() < self.count_complete()
+        network_info::num_faulty(self.pub_keys) < self.count_complete()
     }
 
     // `KeyGenState::is_ready`: and more than two thirds of the nodes' parts.
@@ -186,7 +173,8 @@ impl KeyGen {
     // A part of the node with index i: recorded before its verdict is looked at; once it is, the same one again is nothing.
     fn part_of_index(&mut self, i: usize, commit: u64, verdict: u8) -> KeyOutcome
         requires { i < base.nodes }
-        ensures { handled (key_gen_of self.new) (said_outcome result) ≡ part_of_index (key_gen_of self.old) i (record { commit = commit; rows = [] }) verdict (lookup by_proposer (key_gen_of self.old).parts i) }
+        ensures { handled (key_gen_of self.new) (said_outcome result)
+            ≡ part_of_index (key_gen_of self.old) i (record { commit = commit; rows = [] }) verdict (lookup by_proposer (key_gen_of self.old).parts i) }
     {
         match self.proposals[i] {
             Some(p) if p.commit == commit => KeyOutcome::Quiet,
@@ -232,7 +220,8 @@ impl KeyGen {
         }
     }
 
-    // An ack of the node with index j for the part of the proposer with index i: a new one counts before its verdict, a repeated one is nothing; without a recorded part it is missing.
+    // An ack of the node with index j for the part of the proposer with index i: a new one counts before its verdict, a repeated one is nothing; without a
+    // recorded part it is missing.
     fn ack_of_index(&mut self, i: usize, j: usize, verdict: u8) -> KeyOutcome
         requires { j < base.nodes }
         ensures { handled (key_gen_of self.new) (said_outcome result) ≡ ack_of_index (key_gen_of self.old) j verdict (lookup by_proposer (key_gen_of self.old).parts i) }

@@ -1,4 +1,4 @@
--- What a signed key message is read as, by the fields that were read of it, where rows and values are not kept.
+-- Rows or values that are passed over: what their reading comes to, by the room that is left.
 -- Assumes nothing.
 use Prim.Native.Nat.{ℕ, zero, suc, ◌+◌, ◌*◌, ◌≤◌, ◌<◌}
 use mathlib.Core.Path.{◌≡◌, refl, sym, ap}
@@ -6,30 +6,18 @@ use mathlib.Core.List.{List, [], ◌∷◌}
 use mathlib.Core.Bool.{Bool, true, false}
 use native.Mathlib.Omega.{arith}
 use lib.Dec.{ltb}
-use borrow.Author.Tests.{ltb-true, ltb-false, lt-ltb, le-ltb, ne_eqb}
-use Rattle.bincode.proofs.ReadLaws.{map_refused, answer_ok, answer_err}
+use borrow.Author.Tests.{ltb-true, ltb-false, le-ltb}
+use Rattle.bincode.proofs.ReadLaws.{map_refused}
 use lib.ListN.{length, take, drop}
-use Rattle.std.specs.declared.result.Result.{Result}
 use Rattle.std.specs.declared.result.Result.TheVariants.{Ok, Err}
 use Rattle.bincode.specs.Read.{Read, value, refuse, bind, map_read}
 use Rattle.bincode.specs.Numbers.{read_num, le}
 use Rattle.bincode.specs.Items.{items, counted, many, after}
 use Rattle.bincode.specs.Answer.{answer}
-use Rattle.bincode.specs.declared.Refusal.{Refusal}
-use Rattle.bincode.specs.declared.Refusal.TheVariants.{Malformed, TooLarge}
+use Rattle.bincode.specs.declared.Refusal.TheVariants.{Malformed}
 use Rattle.bincode.proofs.NumberLaws.{read_whole, read_cut}
 use Rattle.bincode.specs.Sizes.{Sizes}
-use Rattle.sync_key_gen.specs.SyncKeyGen.{read_handles, read_part, read_ack}
-use Rattle.key_gen_message.specs.KeyGenMessage.{read_key_gen_message}
-use Rattle.key_gen_message.specs.declared.Body.{Body}
-use Rattle.key_gen_message.specs.declared.KeyGenKind.{KeyGenKind}
-use Rattle.key_gen_message.specs.declared.KeyGenKind.TheVariants.{Part, Ack}
-use Rattle.key_gen_message.specs.Head.{body_of}
-
--- a tag names a kind
-pub data Named (tag : ℕ) (k : KeyGenKind) : Type 0 where
-  is_part : tag ≡ 0 → k ≡ Part → Named tag k
-  is_ack : tag ≡ 1 → k ≡ Ack → Named tag k
+use Rattle.sync_key_gen.specs.SyncKeyGen.{read_handles}
 
 -- a run of numbers is skipped where it has room, and refused where it has none
 skip_run : (s : List ℕ) (n at d : ℕ) → d ≡ at + 8 * n → d ≤ length s → map_read length (many (read_num 8 s) n at) ≡ value n d
@@ -62,15 +50,7 @@ module _ {A B : Type 0} (f : A → B) where
 
 -- rows or values
 module _ (z : Sizes) (s : List ℕ) (at : ℕ) where
-  pub handles_cut : read_num 8 s at ≡ refuse 2 → Err Malformed ≡ answer length (read_handles z s at)
-  unfolding read_handles counted
-  handles_cut e = rw e
-
   module _ (n c : ℕ) (e : read_num 8 s at ≡ value n c) where
-    pub handles_over : z.rows < n → Err TooLarge ≡ answer length (read_handles z s at)
-    unfolding read_handles counted
-    handles_over h = rw (e, lt-ltb _ _ h)
-
     pub handles_short : n ≤ z.rows → c ≤ length s → length s < c + 8 * n → Err Malformed ≡ answer length (read_handles z s at)
     unfolding read_handles counted
     handles_short h l g = seen length (read_handles z s at) (refuse 2) (rw (e, le-ltb _ _ h) (sym (cut_run s n c l g)))
@@ -78,31 +58,3 @@ module _ (z : Sizes) (s : List ℕ) (at : ℕ) where
     pub handles_whole : n ≤ z.rows → (d : ℕ) → d ≡ c + 8 * n → d ≤ length s → Ok (n, d) ≡ answer length (read_handles z s at)
     unfolding read_handles counted
     handles_whole h d q l = seen length (read_handles z s at) (value n d) (rw (e, le-ltb _ _ h) (sym (skip_run s n c d q l)))
-
--- a message
-module _ (z : Sizes) (s : List ℕ) (at tag c : ℕ) (e : read_num 4 s at ≡ value tag c) where
-  pub body_tag : 1 < tag → Err Malformed ≡ answer body_of (read_key_gen_message z s at)
-  unfolding read_key_gen_message
-  body_tag h = rw (e, ne_eqb tag 0 (λ q. let y : ⊥ = omega arith in y), ne_eqb tag 1 (λ q. let y : ⊥ = omega arith in y))
-
--- a part or an ack
-module _ (z : Sizes) (s : List ℕ) (at c : ℕ) where
-  pub body_first : {tag : ℕ} {k : KeyGenKind} → Named tag k → read_num 4 s at ≡ value tag c → read_num 8 s c ≡ refuse 2 → Err Malformed ≡ answer body_of (read_key_gen_message z s at)
-  unfolding read_key_gen_message read_part read_ack
-  body_first (is_part t q) e f = rw (e, t, f)
-  body_first (is_ack t q) e f = rw (e, t, f)
-
-  module _ (first d : ℕ) (f : read_num 8 s c ≡ value first d) where
-    headed : (k : KeyGenKind) {n m b : ℕ} → n ≡ m → ◌≡◌ {A = Result (Body × ℕ) Refusal} (Ok (record { kind = k; first = first; count = n }, b)) (Ok (record { kind = k; first = first; count = m }, b))
-    headed k {b = b} q = ap (λ (i : ℕ). Ok (record { kind = k; first = first; count = i }, b)) q
-
-    pub body_refused : {tag : ℕ} {k : KeyGenKind} → Named tag k → read_num 4 s at ≡ value tag c → (r : Refusal) → answer length (read_handles z s d) ≡ Err r → Err r ≡ answer body_of (read_key_gen_message z s at)
-    unfolding read_key_gen_message read_part read_ack
-    body_refused (is_part t q) e r g = let u = answer_err length (read_handles z s d) r g in rw (e, t, f, u.1) (ap Err u.2)
-    body_refused (is_ack t q) e r g = let u = answer_err length (read_handles z s d) r g in rw (e, t, f, u.1) (ap Err u.2)
-
-    pub body_whole : {tag : ℕ} {k : KeyGenKind} → Named tag k → read_num 4 s at ≡ value tag c → (n b : ℕ) → answer length (read_handles z s d) ≡ Ok (n, b)
-        → Ok (record { kind = k; first = first; count = n }, b) ≡ answer body_of (read_key_gen_message z s at)
-    unfolding read_key_gen_message read_part read_ack
-    body_whole (is_part t q) e n b g = let u = answer_ok length (read_handles z s d) n b g in rw (e, t, q, f, u.1) (headed Part u.2)
-    body_whole (is_ack t q) e n b g = let u = answer_ok length (read_handles z s d) n b g in rw (e, t, q, f, u.1) (headed Ack u.2)

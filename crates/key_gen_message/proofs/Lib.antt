@@ -1,3 +1,4 @@
+pub mod Fields
 pub mod MessageLaws
 pub mod MessageCodes
 pub mod MessageCauses

@@ -116,4 +116,5 @@ pub signed_eq : (a b : SignedKeyGenMsg) → (signed.eq-value).it a b ≡ same_si
 unfolding same_signed
 signed_eq a b =
     ap (λ (e : Bool). eqb a.era b.era && (eqb a.id b.id && e))
-    (ap (λ (e : Bool). e && eqb a.sig b.sig) (message_eq a.message b.message) ∙ and_turned (same_message (message_of a.message) (message_of b.message)) (eqb a.sig b.sig))
+    (ap (λ (e : Bool). e && eqb a.sig b.sig) (message_eq a.message b.message)
+    ∙ and_turned (same_message (message_of a.message) (message_of b.message)) (eqb a.sig b.sig))

@@ -7,10 +7,10 @@ ghost use Rattle.bincode.specs.Sizes.{base};
 ghost use Rattle.bincode.specs.Writing.{written, written_to};
 ghost use Rattle.sync_key_gen.specs.SyncKeyGen.{part_of, ack_of, read_handles};
 ghost use Rattle.key_gen_message.specs.Head.{body_of, head_of};
-ghost use Rattle.key_gen_message.specs.KeyGenMessage.{part, ack, message_of, message_held, no_message, same_message, read_key_gen_message};
-ghost use Rattle.key_gen_message.specs.KeyGenMessage.{message_bytes, signed_of, signed_held, no_signed, same_signed, read_signed_key_gen_msg, signed_bytes};
+ghost use Rattle.key_gen_message.specs.KeyGenMessage.{KeyGenMessageOf, part, ack, message_of, message_held, no_message, read_key_gen_message};
+ghost use Rattle.key_gen_message.specs.KeyGenMessage.{message_bytes, SignedKeyGenMsgOf, signed_of, signed_held, no_signed, read_signed_key_gen_msg, signed_bytes};
 
-use bincode::Refusal;
+use bincode::{Decoded, Encoded, Refusal};
 use sync_key_gen::{Ack, Handles, Part};
 
 // A proposer's part, or an ack of one.
@@ -42,14 +42,6 @@ impl KeyGenMessage {
             rows: Handles::empty(),
         })
     }
-
-    // Whether two are of one kind, with an equal number and equal handles.
-    #[tactic(auto, using(crate::proofs::MessageLaws::message_eq))]
-    pub fn same(self, other: KeyGenMessage) -> bool
-        ensures { result ≡ same_message (message_of self) (message_of other) }
-    {
-        self == other
-    }
 }
 
 // Era, signer, message, signature, as the Rust's tuple struct has them.
@@ -72,57 +64,63 @@ impl SignedKeyGenMsg {
             sig: 0,
         }
     }
+}
 
-    // Whether two have equal fields.
-    #[tactic(auto, using(crate::proofs::MessageLaws::signed_eq))]
-    pub fn same(self, other: SignedKeyGenMsg) -> bool
-        ensures { result ≡ same_signed (signed_of self) (signed_of other) }
-    {
-        self == other
+impl Decoded for KeyGenMessage {
+    ghost Value = { KeyGenMessageOf };
+
+    ghost held = { message_held };
+
+    ghost read_at = { read_key_gen_message base };
+
+    #[tactic(auto, using(crate::proofs::Fields::read), unfolding(crate::specs::KeyGenMessage::read_key_gen_message))]
+    fn read(s: &[u8], at: usize) -> Result<(Self, usize), Refusal> {
+        let Ok((tag, c)) = bincode::read_u32(s, at) else {
+            return Err(Refusal::Malformed);
+        };
+        match tag {
+            0 => {
+                let (p, d) = Part::read(s, c)?;
+                Ok((KeyGenMessage::Part(p), d))
+            }
+            1 => {
+                let (a, d) = Ack::read(s, c)?;
+                Ok((KeyGenMessage::Ack(a), d))
+            }
+            _ => Err(Refusal::Malformed),
+        }
     }
 }
 
-pub fn read_message(s: &[u8], at: usize) -> Result<(KeyGenMessage, usize), Refusal>
-    ensures { result ≡ answer message_held (read_key_gen_message base s.now at) }
-{
-    let Ok((tag, c)) = bincode::read_u32(s, at) else {
-        return Err(Refusal::Malformed);
-    };
-    match tag {
-        0 => {
-            let (p, d) = sync_key_gen::read_part(s, c)?;
-            Ok((KeyGenMessage::Part(p), d))
-        }
-        1 => {
-            let (a, d) = sync_key_gen::read_ack(s, c)?;
-            Ok((KeyGenMessage::Ack(a), d))
-        }
-        _ => Err(Refusal::Malformed),
-    }
-}
+impl Decoded for SignedKeyGenMsg {
+    ghost Value = { SignedKeyGenMsgOf };
 
-pub fn read_signed(s: &[u8], at: usize) -> Result<(SignedKeyGenMsg, usize), Refusal>
-    ensures { result ≡ answer signed_held (read_signed_key_gen_msg base s.now at) }
-{
-    let Ok((era, a)) = bincode::read_u64(s, at) else {
-        return Err(Refusal::Malformed);
-    };
-    let Ok((id, b)) = bincode::read_u32(s, a) else {
-        return Err(Refusal::Malformed);
-    };
-    let (message, c) = read_message(s, b)?;
-    let Ok((sig, d)) = bincode::read_u64(s, c) else {
-        return Err(Refusal::Malformed);
-    };
-    Ok((
-        SignedKeyGenMsg {
-            era,
-            id,
-            message,
-            sig,
-        },
-        d,
-    ))
+    ghost held = { signed_held };
+
+    ghost read_at = { read_signed_key_gen_msg base };
+
+    #[tactic(auto, using(crate::proofs::Fields::read), unfolding(crate::specs::KeyGenMessage::read_signed_key_gen_msg))]
+    fn read(s: &[u8], at: usize) -> Result<(Self, usize), Refusal> {
+        let Ok((era, a)) = bincode::read_u64(s, at) else {
+            return Err(Refusal::Malformed);
+        };
+        let Ok((id, b)) = bincode::read_u32(s, a) else {
+            return Err(Refusal::Malformed);
+        };
+        let (message, c) = KeyGenMessage::read(s, b)?;
+        let Ok((sig, d)) = bincode::read_u64(s, c) else {
+            return Err(Refusal::Malformed);
+        };
+        Ok((
+            SignedKeyGenMsg {
+                era,
+                id,
+                message,
+                sig,
+            },
+            d,
+        ))
+    }
 }
 
 // Which of the two a message is.
@@ -152,15 +150,11 @@ pub struct MessageHead {
 }
 
 // How many rows or values there are: they are any numbers, so their room alone is tested.
+#[tactic(auto, unfolding(sync_key_gen::specs::SyncKeyGen::read_handles, bincode::specs::Items::counted, bincode::specs::Items::read_count))]
 fn skip_handles(s: &[u8], at: usize) -> Result<(u64, usize), Refusal>
     ensures { result ≡ answer length (read_handles base s.now at) }
 {
-    let Ok((n, c)) = bincode::read_u64(s, at) else {
-        return Err(Refusal::Malformed);
-    };
-    if (Handles::LIMIT as u64) < n {
-        return Err(Refusal::TooLarge);
-    }
+    let (n, c) = bincode::read_count(s, at, Handles::LIMIT as u64)?;
     let size = 8 * (n as usize);
     if !bincode::room(s.len(), c, size) {
         return Err(Refusal::Malformed);
@@ -168,6 +162,7 @@ fn skip_handles(s: &[u8], at: usize) -> Result<(u64, usize), Refusal>
     Ok((n, c + size))
 }
 
+#[tactic(auto, using(crate::proofs::Fields::read), unfolding(crate::specs::KeyGenMessage::read_key_gen_message, sync_key_gen::specs::SyncKeyGen::read_part, sync_key_gen::specs::SyncKeyGen::read_ack))]
 fn read_body(s: &[u8], at: usize) -> Result<(Body, usize), Refusal>
     ensures { result ≡ answer body_of (read_key_gen_message base s.now at) }
 {
@@ -187,6 +182,7 @@ fn read_body(s: &[u8], at: usize) -> Result<(Body, usize), Refusal>
 }
 
 // Rows and values are tested and not kept, so that no array is copied where the numbers alone are asked for.
+#[tactic(auto, using(crate::proofs::Fields::read), unfolding(crate::specs::KeyGenMessage::read_signed_key_gen_msg))]
 pub fn read_head(s: &[u8], at: usize) -> Result<(MessageHead, usize), Refusal>
     ensures { result ≡ answer head_of (read_signed_key_gen_msg base s.now at) }
 {
@@ -214,6 +210,7 @@ pub fn read_head(s: &[u8], at: usize) -> Result<(MessageHead, usize), Refusal>
 }
 
 // How many bytes a message takes.
+#[tactic(auto, using(crate::proofs::MessageLaws::length_message))]
 pub fn message_size(m: KeyGenMessage) -> usize
     ensures { (result ≡ length (message_bytes (message_of m))) × (result ≤ 20 + 8 * base.rows) }
 {
@@ -224,31 +221,39 @@ pub fn message_size(m: KeyGenMessage) -> usize
     12 + sync_key_gen::handles_size(handles)
 }
 
-// The position behind the message, or `at` where it has no room; then nothing is written.
-pub fn write_message(buf: &mut [u8], at: usize, m: KeyGenMessage) -> usize
-    ensures { (buf.new ≡ written buf.old at (message_bytes (message_of m))) × (result ≡ written_to buf.old at (message_bytes (message_of m))) }
-{
-    match m {
-        KeyGenMessage::Part(p) => bincode::write_both(buf, at, 0u32, p),
-        KeyGenMessage::Ack(a) => bincode::write_both(buf, at, 1u32, a),
-    }
-}
-
+// How many bytes a signed message takes.
+#[tactic(auto, using(crate::proofs::MessageLaws::length_signed))]
 pub fn signed_size(x: SignedKeyGenMsg) -> usize
     ensures { (result ≡ length (signed_bytes (signed_of x))) × (result ≤ 40 + 8 * base.rows) }
 {
     20 + message_size(x.message)
 }
 
-pub fn write_signed(buf: &mut [u8], at: usize, x: SignedKeyGenMsg) -> usize
-    ensures { (buf.new ≡ written buf.old at (signed_bytes (signed_of x))) × (result ≡ written_to buf.old at (signed_bytes (signed_of x))) }
-{
-    if bincode::room(buf.len(), at, signed_size(x)) {
-        let a = bincode::write_u64(buf, at, x.era);
-        let b = bincode::write_u32(buf, a, x.id);
-        let c = write_message(buf, b, x.message);
-        bincode::write_u64(buf, c, x.sig)
-    } else {
-        at
+impl Encoded for KeyGenMessage {
+    ghost bytes = { λ m. message_bytes (message_of m) };
+
+    fn size(&self) -> usize {
+        message_size(*self)
+    }
+
+    #[tactic(auto, using(crate::proofs::MessageLaws::tagged_part, crate::proofs::MessageLaws::tagged_ack), unfolding(crate::specs::KeyGenMessage::message_bytes))]
+    fn write(&self, buf: &mut [u8], at: usize) -> usize {
+        match *self {
+            KeyGenMessage::Part(p) => (0u32, p).write(buf, at),
+            KeyGenMessage::Ack(a) => (1u32, a).write(buf, at),
+        }
+    }
+}
+
+impl Encoded for SignedKeyGenMsg {
+    ghost bytes = { λ x. signed_bytes (signed_of x) };
+
+    fn size(&self) -> usize {
+        signed_size(*self)
+    }
+
+    #[tactic(auto, unfolding(crate::specs::KeyGenMessage::signed_bytes))]
+    fn write(&self, buf: &mut [u8], at: usize) -> usize {
+        (self.era, self.id, self.message, self.sig).write(buf, at)
     }
 }

@@ -6,12 +6,14 @@ use mathlib.Core.List.{List, [], ◌∷◌}
 use mathlib.Core.Path.{◌≡◌, refl, sym, ap, ◌∙◌}
 use native.Mathlib.Omega.{arith}
 use lib.Dec.{ltb}
-use lib.ListN.{length, get_or, set}
+use lib.ListN.{length, get_or, set, length-take}
 use lib.Seq.{set_out, get_or-set_same}
 use borrow.Author.Tests.{ltb-false}
 use Rattle.lists.specs.Lists.{Found, found, nothing}
-use Rattle.bincode.specs.Sizes.{Sizes}
+use Rattle.bincode.specs.Sizes.{Sizes, base}
 use Rattle.pub_key_map.specs.declared.Node.{Node}
+use Rattle.pub_key_map.specs.declared.PubKeyMap.{PubKeyMap}
+use Rattle.pub_key_map.specs.PubKeyMap.{nodes_of}
 use Rattle.key_gen.specs.KeyGen.{node_count}
 use Rattle.key_gen_state.specs.KeyGenState.{KeyGenStateOf, CountedOf, raised, sender_place, counted_at, counted_by, count_messages}
 use Rattle.key_gen_state.specs.LentCounts.{nodes_up_to, raised_at, count_at, CountRaised, placed, place_of}
@@ -52,6 +54,10 @@ unfolding raised_at
 as_counted z g i h l =
     let e = ap (λ (n : ℕ). raised n (get_or g.counts i 0)) (nodes_same z (node_count g.key_gen) h) in
     (ap (set g.counts i) e, get_or-set_same g.counts i _ 0 l ∙ e)
+
+-- a map has no more nodes than places
+pub few_nodes : (m : PubKeyMap) → length m.nodes.items ≡ base.nodes → length (nodes_of m) ≤ base.nodes
+few_nodes m l = simp length-take (omega arith)
 
 -- a sender's place
 module _ (z : Sizes) (cur : List Node) (g : KeyGenStateOf) (sender : ℕ) where

@@ -92,10 +92,9 @@ pub fn count_messages(counts: &mut MessageCounts, place: usize, n: usize) -> u8
 pub fn is_ready(state: &Option<KeyGenState>) -> bool
     ensures { result ≡ ready_state (state_of state.now) }
 {
-    match state {
-        Some(running) => running.key_gen.is_ready(),
-        None => false,
-    }
+    state
+        .as_ref()
+        .is_some_and(|running| running.key_gen.is_ready())
 }
 
 impl KeyGenState {

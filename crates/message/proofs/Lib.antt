@@ -1,3 +1,2 @@
-pub mod ContentLaws
 pub mod ContentCodes
 pub mod ContentCauses

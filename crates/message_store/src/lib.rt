@@ -54,6 +54,7 @@ impl MessageStore {
     }
 
     // A message behind those held; row 12 where there is no place.
+    #[tactic(auto, unfolding(array_list::specs::ArrayList::pushed, crate::specs::MessageStore::pushed, crate::specs::MessageStore::row12))]
     pub fn push(mut self, m: SignedKeyGenMsg) -> Pushed
         ensures { (pushed_of result ≡ pushed base (store_of self) (signed_of m)) × PushRefusedKeeps result self }
     {
@@ -72,6 +73,7 @@ impl MessageStore {
     }
 
     // The message at a place, 0 first, in order of arrival, if there is one.
+    #[tactic(auto, using(lists::proofs::PlaceLaws::at_map, crate::proofs::StoreLaws::found_as))]
     pub fn at(self, place: usize) -> Option<SignedKeyGenMsg>
         ensures { option_as_found signed_of result ≡ at_place place (store_of self) }
     {
@@ -82,7 +84,7 @@ impl MessageStore {
     pub fn without(mut self, m: SignedKeyGenMsg) -> Self
         ensures { store_of result ≡ without (signed_of m) (store_of self) }
     {
-        self.messages.retain(|x| !x.same(m));
+        self.messages.retain(|x| *x != m);
         self
     }
 

@@ -1,149 +1,83 @@
--- The last part of a batch call: the state as the steps left it, the store, and the lent lists, each tied to the batch step's answer.
+-- The whole batch call by what the steps came to: state, report and the lists that a host lends.
 -- Assumes nothing.
 use Prim.Native.Nat.{ℕ, ◌≤◌}
-use mathlib.Core.Path.{◌≡◌, refl, sym, ap, ◌∙◌, subst}
-use mathlib.Core.List.{List, [], ◌++◌, map}
+use mathlib.Core.Path.{◌≡◌, refl, sym, ap, subst}
+use mathlib.Core.List.{List}
 use native.Mathlib.Omega.{arith}
-use lib.ListN.{length, take}
-use lib.Seq.{take_at}
-use Rattle.lists.specs.Lists.{found}
+use Rattle.std.specs.declared.option.Option.{Option}
 use Rattle.std.specs.declared.result.Result.{Result}
 use Rattle.std.specs.declared.result.Result.TheVariants.{Ok, Err}
-use Rattle.std.specs.declared.option.Option.{Option}
-use Rattle.bincode.specs.Outcome.{Outcome, done, refused}
+use Rattle.bincode.specs.Outcome.{refused}
+use Rattle.bincode.specs.Rows.{row_number}
 use Rattle.bincode.specs.Sizes.{base}
 use Rattle.bincode.specs.declared.Refusal.{Refusal}
-use Rattle.filled.specs.Filled.{filled}
-use Rattle.filled.specs.Numbers.{fault_id, kind_number, due_index, FaultsIn, DueIn}
-use Rattle.filled.proofs.FillLaws.{filled_room}
+use Rattle.bincode.proofs.ReadLaws.{cross}
 use Rattle.fault_log.specs.declared.Fault.{Fault}
+use Rattle.fault_log.specs.FaultLog.{faults_of}
 use Rattle.due.specs.declared.DueItem.{DueItem}
-use Rattle.params.specs.declared.Params.{Params}
-use Rattle.key_gen_message.specs.KeyGenMessage.{SignedKeyGenMsgOf}
-use Rattle.key_gen_state.specs.declared.KeyGenState.{KeyGenState}
-use Rattle.vote_counter.specs.declared.VoteCounter.{VoteCounter}
-use Rattle.message_store.specs.MessageStore.{store_of}
+use Rattle.filled.specs.Numbers.{FaultsIn, DueIn, owed}
+use Rattle.filled.proofs.FillLaws.{filled_none}
 use Rattle.dynamic_honey_badger.specs.declared.DynamicHoneyBadger.{DynamicHoneyBadger}
-use Rattle.dynamic_honey_badger.specs.declared.ReportStamp.{ReportStamp}
-use Rattle.dynamic_honey_badger.specs.State.{state_of, stamp_held}
-use Rattle.steps.specs.Held.{ack_item}
-use Rattle.commit.specs.Batch.{Lists}
-use Rattle.process_output.specs.Process.{BatchCall, ReportOf, ProcessedOf, last_after, processed}
-use Rattle.process_output.proofs.CallLaws.{processed_last}
+use Rattle.dynamic_honey_badger.specs.State.{state_of}
+use Rattle.commit.specs.declared.Arisen.{Arisen}
+use Rattle.commit.specs.Arisen.{acks_of}
+use Rattle.process_output.specs.Process.{BatchCall, ProcessedOf, processed}
 use Rattle.process_batch.specs.declared.Report.{Report}
 use Rattle.process_batch.specs.declared.Told.{Told}
-use Rattle.process_batch.specs.declared.Settled.{Settled}
-use Rattle.process_batch.specs.declared.Processed.{Processed}
-use Rattle.process_batch.specs.Answer.{summary, summed, held_summary, report_of, faults_told, due_told, part_behind, last_by, ProcessedAs, BatchRefusedKeeps}
-use Rattle.process_batch.specs.Worked.{RanAs, store_by, list_by}
-use Rattle.process_batch.specs.Lent.{faults_in, due_in}
+use Rattle.process_batch.specs.Answer.{ProcessedAs, BatchRefusedKeeps}
+use Rattle.process_batch.specs.Lent.{Lists, faults_in, due_in, Filled, BatchDone, lent_call}
+use Rattle.process_batch.specs.Steps.{StepsDone}
 
--- a list that was filled begins with what it was filled with
-pub taken_filled : {A : Type 0} (xs old : List A) (n : ℕ) → length xs ≡ n → n ≤ length old → take n (filled xs old) ≡ xs
-taken_filled xs old n e h = rw (filled_room xs old (omega (arith, e, h))) (take_at xs _ n e)
+-- the report is what is told, or the refusal
+abbrev pub reported : Result Told Refusal → Result Report Refusal
+reported (Ok t) = Ok t.report
+reported (Err n) = Err n
 
--- the lists of the call's own begin with these faults and these acks
-pub record Noted (fs : List Fault) (ds : List DueItem) (era : ℕ) (l : Lists) : Type 0 where
-  pub by_id : take (length fs) l.ids ≡ map fault_id fs
-  pub by_kind : take (length fs) l.kinds ≡ map kind_number fs
-  pub by_index : take (length ds) l.indices ≡ map due_index ds
-  pub all_acks : ds ≡ map (ack_item era) (map due_index ds)
+-- what the lent lists hold at the end: what arose, or what they held
+abbrev pub Written : Result Told Refusal → ℕ → Arisen → Lists → Lists → Type 0
+Written (Ok t) era r l l' =
+    FaultsIn (faults_of r.faults) l.fault_ids l'.fault_ids l.fault_kinds l'.fault_kinds
+    × DueIn (owed era (acks_of r) t.part) l.due_kinds l'.due_kinds l.due_indices l'.due_indices l.due_eras l'.due_eras
+Written (Err n) era r l l' = l' ≡ l
 
-pub none_noted : (era : ℕ) (l : Lists) → Noted [] [] era l
-none_noted era l = record { by_id = take_nothing l.ids; by_kind = take_nothing l.kinds; by_index = take_nothing l.indices; all_acks = refl }
-  where
-    take_nothing : (xs : List ℕ) → take 0 xs ≡ []
-    take_nothing xs = refl
+-- by what was put into them
+pub faults_put : (fs gs : List Fault) → gs ≡ fs → (ids ids' ids'' kinds kinds' kinds'' : List ℕ) → ids'' ≡ ids' → kinds'' ≡ kinds' → FaultsIn gs ids ids' kinds kinds'
+    → FaultsIn fs ids ids'' kinds kinds''
+faults_put fs gs e ids ids' ids'' kinds kinds' kinds'' i k p = rw (← e, i, k) p
 
--- what the steps came to: r for parts p, c, k of a state with the store st
-module _ (r : Settled) (p : Params) (c : VoteCounter) (k : Option KeyGenState) (st kept : List SignedKeyGenMsgOf) (fs : List Fault) (ds : List DueItem) (x : ProcessedOf)
-    (h : RanAs r p c k st kept fs ds x) where
-  -- faults and acks are told by their number
-  pub told_faults : (o : Result Report Refusal) → r.told.report ≡ o → faults_told o ≡ length (list_by o fs)
-  told_faults (Ok t) e = sym (h.by_acks t e).0
-  told_faults (Err n) e = refl
+pub due_put : (xs ys : List ℕ) → ys ≡ xs → (era : ℕ) (part : Option ℕ) (kinds kinds' kinds'' indices indices' indices'' eras eras' eras'' : List ℕ)
+    → kinds'' ≡ kinds' → indices'' ≡ indices' → eras'' ≡ eras' → DueIn (owed era ys part) kinds kinds' indices indices' eras eras'
+    → DueIn (owed era xs part) kinds kinds'' indices indices'' eras eras''
+due_put xs ys e era part kinds kinds' kinds'' indices indices' indices'' eras eras' eras'' k i r p = rw (← e, k, i, r) p
 
-  pub told_acks : (o : Result Report Refusal) → r.told.report ≡ o → r.told.acks ≡ length (list_by o ds)
-  told_acks (Ok t) e = sym (h.by_acks t e).1
-  told_acks (Err n) e = ap (λ (y : Settled). y.told.acks) (h.refused_keeps n e)
+-- lists that stay as they are are filled with nothing
+none_filled : (n : ℕ) (l l' : Lists) → l' ≡ l → Filled (refused n) l l'
+none_filled n l l' e = subst (Filled (refused n) l) (sym e) ((sym (filled_none l.fault_ids), sym (filled_none l.fault_kinds)), (sym (filled_none l.due_kinds), sym (filled_none l.due_indices), sym (filled_none l.due_eras)))
 
-  -- the lists of the call's own hold them
-  pub told_noted : (era : ℕ) (l : Lists) → Noted fs ds era l → (o : Result Report Refusal) → Noted (list_by o fs) (list_by o ds) era l
-  told_noted era l n (Ok t) = n
-  told_noted era l n (Err m) = none_noted era l
-
-  -- what is due behind the acks
-  due_behind : (o : Result Report Refusal) → r.told.report ≡ o
-      → list_by o ds ++ part_behind r.told.acks (due_told o) r.told.era ≡ list_by o (ds ++ part_behind r.told.acks (due_told o) r.told.era)
-  due_behind (Ok t) e = refl
-  due_behind (Err n) e = ap (λ (y : Settled). part_behind y.told.acks 0 y.told.era) (h.refused_keeps n e)
-
-  -- the host's lists of faults
-  pub faults_filled : (era : ℕ) (l : Lists) → Noted fs ds era l → (ids ids' kinds kinds' : List ℕ)
-      → ids' ≡ filled (take (faults_told r.told.report) l.ids) ids → kinds' ≡ filled (take (faults_told r.told.report) l.kinds) kinds
-      → FaultsIn (faults_in x.answer) ids ids' kinds kinds'
-  faults_filled era l n ids ids' kinds kinds' d e =
-      let o = r.told.report in
-      let q = told_noted era l n o in
-      let t = told_faults o refl in (
-        d ∙ ap (λ (xs : List ℕ). filled xs ids) (ap (λ (i : ℕ). take i l.ids) t ∙ q.by_id ∙ ap (λ (ys : List Fault). map fault_id ys) h.by_faults),
-        e ∙ ap (λ (xs : List ℕ). filled xs kinds) (ap (λ (i : ℕ). take i l.kinds) t ∙ q.by_kind ∙ ap (λ (ys : List Fault). map kind_number ys) h.by_faults),
-      )
-
-  -- and those of due items, by what `write_due` ensures
-  pub due_filled : (era : ℕ) (l : Lists) → Noted fs ds era l → (kinds kinds' indices indices' eras eras' : List ℕ)
-      → ((es : List DueItem) → length es ≡ r.told.acks → take r.told.acks l.indices ≡ map due_index es → es ≡ map (ack_item era) (map due_index es)
-      → DueIn (es ++ part_behind r.told.acks (due_told r.told.report) r.told.era) kinds kinds' indices indices' eras eras')
-      → DueIn (due_in x.answer) kinds kinds' indices indices' eras eras'
-  due_filled era l n kinds kinds' indices indices' eras eras' w =
-      let o = r.told.report in
-      let q = told_noted era l n o in
-      let t = told_acks o refl in
-      subst (λ (es : List DueItem). DueIn es kinds kinds' indices indices' eras eras') (due_behind o refl ∙ h.by_due)
-      (w (list_by o ds) (sym t) (ap (λ (i : ℕ). take i l.indices) t ∙ q.by_index) q.all_acks)
-
-  -- no more faults are told than there are places
-  pub few_told : length fs ≤ base.faults → faults_told r.told.report ≤ base.faults
-  few_told b = go r.told.report refl
+module _ (s u : DynamicHoneyBadger) (era inner : ℕ) (bytes verdicts : List ℕ) (l l' : Lists) (r : Arisen) where
+  pub batch_done : (o : Result Told Refusal) → StepsDone s (lent_call era inner bytes verdicts l) o u r → Written o s.vote_counter.era r l l' → (q : Result Report Refusal) → q ≡ reported o
+      → BatchDone s era inner bytes verdicts l (record { state = u; outcome = q }) l'
+  batch_done o h w q e = subst (λ (y : Result Report Refusal). BatchDone s era inner bytes verdicts l (record { state = u; outcome = y }) l') (sym e) (go o h w)
     where
-      go : (o : Result Report Refusal) → r.told.report ≡ o → faults_told o ≤ base.faults
-      go (Ok t) e = omega (arith, told_faults (Ok t) e, b)
-      go (Err n) e = omega arith
+      b : BatchCall
+      b = lent_call era inner bytes verdicts l
 
--- the state with the parts that the steps left, and a store
-abbrev pub parts_in : DynamicHoneyBadger → Told → Settled
-parts_in s t = record { params = s.params; vote_counter = s.vote_counter; key_gen_state = s.key_gen_state; told = t }
-
-abbrev pub answered : DynamicHoneyBadger → Told → Processed
-answered s t = record { state = s; outcome = t.report }
-
--- the last report as code keeps it is the one that the answer says
-last_said : (o : Result Report Refusal) (l : Option ReportStamp) (a : Outcome ReportOf) → report_of o ≡ summed a
-    → stamp_held (last_by o l) ≡ last_after (stamp_held l) a
-last_said (Ok r) l (done x) e = let q : held_summary r ≡ summary x = cc in λ j. found (record { epoch = (q j).batch.epoch; era = (q j).batch.era })
-last_said (Ok r) l (refused n) e = absurd (let z : ◌≡◌ {A = ℕ} 0 1 = cc in let w : ⊥ = omega arith in w)
-last_said (Err n) l (done x) e = absurd (let z : ◌≡◌ {A = ℕ} 0 1 = cc in let w : ⊥ = omega arith in w)
-last_said (Err n) l (refused m) e = refl
-
--- the whole call, of the state s: v is the state behind the store, u that with the last report
-module _ (s v u : DynamicHoneyBadger) (t : Told) (kept : List SignedKeyGenMsgOf) (fs : List Fault) (ds : List DueItem) (b : BatchCall)
-    (h : RanAs (parts_in v t) s.params s.vote_counter s.key_gen_state (store_of s.store) kept fs ds (processed base (state_of s) b))
-    (stored : store_of v.store ≡ store_by t.report t.restarted t.era (store_of s.store) kept)
-    (same : (n : Refusal) → t.report ≡ Err n → v.store ≡ s.store) (l : Option ReportStamp)
-    (by_last : l ≡ last_by t.report s.last)
-    (ends : u ≡ record { params = v.params; vote_counter = v.vote_counter; key_gen_state = v.key_gen_state; store = v.store; last = l }) where
-  -- state and report
-  pub answered_as : ProcessedAs (answered u t) (processed base (state_of s) b)
-  answered_as =
-      let q = stored ∙ h.by_store in
-      let kept-last = ap stamp_held by_last ∙ last_said t.report s.last (processed base (state_of s) b).answer h.by_report ∙ sym (processed_last base (state_of s) b) in
-      let e : state_of u ≡ (processed base (state_of s) b).state
-      = ap state_of ends ∙ (λ j. record { counter = h.by_counter j; params = h.by_params j; key_gen = h.by_key_gen j; store = q j; last = kept-last j }) in
-      (e, h.by_report)
-
-  -- the very state beside a refusal
-  pub answered_keeps : BatchRefusedKeeps (answered u t) s
-  answered_keeps n e =
-      let g = h.refused_keeps n e in
-      let left = by_last ∙ ap (λ (o : Result Report Refusal). last_by o s.last) e in
-      ends ∙ (λ j. record { params = (g j).params; vote_counter = (g j).vote_counter; key_gen_state = (g j).key_gen_state; store = same n e j; last = left j })
+      go : (o : Result Told Refusal) → StepsDone s (lent_call era inner bytes verdicts l) o u r → Written o s.vote_counter.era r l l'
+          → BatchDone s era inner bytes verdicts l (record { state = u; outcome = reported o }) l'
+      go (Ok t) h w = (
+        (h.0, h.1),
+        (λ n y. absurd (cross y)),
+        filled_with h.2 h.3 w,
+        h.4,
+      )
+        where
+          filled_with : faults_of r.faults ≡ faults_in (processed base (state_of s) (lent_call era inner bytes verdicts l)).answer
+              → owed s.vote_counter.era (acks_of r) t.part ≡ due_in (processed base (state_of s) (lent_call era inner bytes verdicts l)).answer
+              → Written (Ok t) s.vote_counter.era r l l' → Filled (processed base (state_of s) (lent_call era inner bytes verdicts l)).answer l l'
+          filled_with f d w = (
+            subst (λ (fs : List Fault). FaultsIn fs l.fault_ids l'.fault_ids l.fault_kinds l'.fault_kinds) f w.0,
+            subst (λ (ds : List DueItem). DueIn ds l.due_kinds l'.due_kinds l.due_indices l'.due_indices l.due_eras l'.due_eras) d w.1,
+          )
+      go (Err n) h w =
+          subst (λ (x : ProcessedOf). ProcessedAs (record { state = u; outcome = Err n }) x × BatchRefusedKeeps (record { state = u; outcome = Err n }) s × Filled x.answer l l' × (0 ≤ base.faults)) (sym h.0)
+          ((ap state_of h.1, refl), (λ m y. h.1), none_filled (row_number n) l l' w, omega arith)

@@ -1,7 +1,4 @@
-pub mod CopyLaws
-pub mod ConcludeLaws
+pub mod SettleLaws
 pub mod StoreLaws
-pub mod WorkLaws
+pub mod StepLaws
 pub mod DoneLaws
-pub mod RunLaws
-pub mod MovedLaws

@@ -1,3 +1,3 @@
 pub mod Answer
+pub mod Steps
 pub mod Lent
-pub mod Worked

@@ -2,11 +2,11 @@
 -- given, or it is taken and finished. Each case has what is known in it.
 -- Assumes nothing.
 use Prim.Native.Nat.{ℕ, ◌+◌}
-use mathlib.Core.Path.{◌≡◌, refl, ap}
+use mathlib.Core.Path.{◌≡◌, refl}
 use mathlib.Core.List.{List}
-use mathlib.Core.Bool.{Bool, true, false, not, cond}
+use mathlib.Core.Bool.{Bool, true, false, cond}
 use lib.Dec.{eqb}
-use borrow.Author.Tests.{eqb-true, eqb-false, eq-eqb, ne_eqb, not-true, not-false}
+use borrow.Author.Tests.{eqb-true, eqb-false, not-true, not-false}
 use Rattle.bincode.specs.Read.{Read, value, refuse}
 use Rattle.bincode.specs.Sizes.{Sizes}
 use Rattle.internal_contrib.specs.InternalContrib.{ContribOf, read_batch}
@@ -24,14 +24,6 @@ row15_other now era e = eqb-false era now (not-true (eqb era now) e)
 pub row15_same : (now era : ℕ) → batch_row15 now era ≡ false → era ≡ now
 unfolding batch_row15
 row15_same now era e = eqb-true era now (not-false (eqb era now) e)
-
-pub other_row15 : (now era : ℕ) → (era ≡ now → ⊥) → batch_row15 now era ≡ true
-unfolding batch_row15
-other_row15 now era e = ap not (ne_eqb era now e)
-
-pub same_row15 : (now era : ℕ) → era ≡ now → batch_row15 now era ≡ false
-unfolding batch_row15
-same_row15 now era e = ap not (eq-eqb era now e)
 
 module _ (z : Sizes) (s : StateOf) (b : BatchCall) where
   -- the lent lists are long enough, and the bytes are read as contributions

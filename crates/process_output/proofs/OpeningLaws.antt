@@ -3,7 +3,7 @@
 use borrow.Author.Tests.{lt-ltb, le-ltb, ltb-false}
 use Prim.Native.Nat.{ℕ, ◌+◌, ◌^◌, ◌≤◌, ◌<◌}
 use mathlib.Core.Path.{◌≡◌, refl, sym, ap, ◌∙◌, subst}
-use mathlib.Core.List.{List, []}
+use mathlib.Core.List.{List}
 use mathlib.Core.Bool.{Bool, true, false, not, cond, ◌||◌}
 use native.Mathlib.Omega.{arith}
 use lib.Dec.{ltb, eqb, lit<}
@@ -12,8 +12,8 @@ use Rattle.lists.proofs.ListLaws.{cond_yes, cond_no, false_true}
 use Rattle.bincode.specs.Read.{Read, value, refuse}
 use Rattle.std.specs.declared.result.Result.{Result}
 use Rattle.std.specs.declared.result.Result.TheVariants.{Ok, Err}
-use Rattle.std.specs.Result.{is_err}
 use Rattle.bincode.specs.Outcome.{Outcome, done, refused}
+use Rattle.bincode.specs.Answer.{outcome_as_said}
 use Rattle.bincode.specs.Rows.{row_number}
 use Rattle.bincode.specs.declared.Refusal.{Refusal}
 use Rattle.bincode.specs.declared.Refusal.TheVariants.{ShortBuffer}
@@ -23,7 +23,7 @@ use Rattle.bincode.specs.Stands.{Bytes}
 use Rattle.internal_contrib.specs.declared.BatchIndex.{BatchIndex}
 use Rattle.internal_contrib.specs.declared.Contrib.{Contrib}
 use Rattle.internal_contrib.specs.InternalContrib.{ContribOf, read_batch}
-use Rattle.internal_contrib.specs.Index.{placed_from, contribs_in, EachKept, Indexed}
+use Rattle.internal_contrib.specs.Index.{placed_from, placed_in, contribs_in, EachKept, Indexed}
 use Rattle.internal_contrib.proofs.KeptLaws.{batch_kept}
 use Rattle.internal_contrib.proofs.BatchLaws.{check_refuse}
 use Rattle.dynamic_honey_badger.specs.Asked.{row5, epoch_in}
@@ -31,13 +31,12 @@ use Rattle.dynamic_honey_badger.specs.State.{StateOf, era_of}
 use Rattle.steps.specs.Steps.{committed}
 use Rattle.process_output.specs.Refusals.{some, no_verdict, batch_row1, batch_row4, batch_row15, batch_row7}
 use Rattle.process_output.specs.Process.{BatchCall, ProcessedOf, denied, finished, processed_contribs, processed_read, processed}
-use Rattle.process_output.specs.declared.Opened.{Opened}
-use Rattle.process_output.specs.Opening.{ReadAs, opened_contribs, opened_read, opened, places_of, said_opening, OpenedAs, EpochBy}
+use Rattle.process_output.specs.Opening.{ReadAs, opened_contribs, opened_read, opened, OpenedAs, EpochBy}
 
 -- rows 4, 15 and 5 of a batch that was read, by what the tests of 4 and 15 answered
 module _ (era batch-era inner : ℕ) (verdicts : List ℕ) (messages : ℕ) (r4 r15 : Bool)
     (ill-formed : r4 ≡ not (eqb (length verdicts) messages) || some no_verdict verdicts) (other : r15 ≡ not (eqb batch-era era)) where
-  pub by_rows : (o : Result ℕ Refusal) → said_opening o ≡ cond r4 (refused 4) (cond r15 (refused 15) (epoch_in era inner)) → EpochBy o era batch-era inner verdicts messages
+  pub by_rows : (o : Result ℕ Refusal) → outcome_as_said (λ (epoch : ℕ). epoch) o ≡ cond r4 (refused 4) (cond r15 (refused 15) (epoch_in era inner)) → EpochBy o era batch-era inner verdicts messages
   unfolding opened_contribs batch_row4 batch_row15
   by_rows o q bytes cs places dues e =
       let row4 = ill-formed ∙ ap (λ (n : ℕ). not (eqb (length verdicts) n) || some no_verdict verdicts) e in
@@ -153,51 +152,49 @@ module _ (z : Sizes) (s : StateOf) (b : BatchCall) where
       by_row false (refuse n) = refl
 
 -- for the caller, by what was opened: `processed` is a refusal's, or row 7 and the steps
-module _ (s : StateOf) (b : BatchCall) (r : Opened)
-    (h : OpenedAs r (opened base (era_of s) b) (read_batch base b.bytes)) where
-  -- refused: no contribution is noted
-  pub opened_refused : (n : Refusal) → r.opening ≡ Err n → (contribs_in r.index ≡ []) × (processed base s b ≡ denied s (row_number n))
-  opened_refused n q =
-      let o : opened base (era_of s) b ≡ refused (row_number n) = sym h.0 ∙ ap said_opening q in (
-        h.1 ∙ ap (λ (y : Outcome ℕ). places_of y (read_batch base b.bytes)) o,
-        processed_opened base s b ∙ ap (after_opening base s b (read_batch base b.bytes)) o ∙ after (read_batch base b.bytes),
-      )
+module _ (s : StateOf) (b : BatchCall) where
+  pub opened_refused : (n : ℕ) → opened base (era_of s) b ≡ refused n → processed base s b ≡ denied s n
+  opened_refused n o = processed_opened base s b ∙ ap (after_opening base s b (read_batch base b.bytes)) o ∙ after (read_batch base b.bytes)
     where
-      after : (x : Read (List ContribOf)) → after_opening base s b x (refused (row_number n)) ≡ denied s (row_number n)
+      after : (x : Read (List ContribOf)) → after_opening base s b x (refused n) ≡ denied s n
       after (value cs c) = refl
       after (refuse m) = refl
 
-  -- opened: contributions were read and stand at the noted places
-  pub record Begun (epoch : ℕ) : Type 0 where
+  -- contributions were read and stand at the noted places
+  pub record Begun (epoch : ℕ) (index : BatchIndex) : Type 0 where
     pub cs : List ContribOf
     pub next : ℕ
     pub read : read_batch base b.bytes ≡ value cs next
-    pub kept : EachKept base b.bytes (contribs_in r.index) cs
+    pub placed : contribs_in index ≡ placed_from 8 cs
+    pub kept : EachKept base b.bytes (contribs_in index) cs
     pub sum : epoch ≡ era_of s + b.inner
     pub fits : epoch + 1 < 2 ^ 64
     pub comes : processed base s b ≡ cond (batch_row7 base s b.verdicts cs) (denied s 7) (finished base s epoch (committed base s b.verdicts cs))
 
-  pub opened_epoch : (epoch : ℕ) → r.opening ≡ Ok epoch → Bytes b.bytes → Begun epoch
-  opened_epoch epoch q bytes =
-      let o : opened base (era_of s) b ≡ done epoch = sym h.0 ∙ ap said_opening q in
+  pub opened_epoch : (epoch : ℕ) (index : BatchIndex) → opened base (era_of s) b ≡ done epoch → contribs_in index ≡ placed_in (read_batch base b.bytes) → Bytes b.bytes → Begun epoch index
+  opened_epoch epoch index o stand bytes =
       let v = opened_read_lem base (era_of s) b epoch o in
+      let placed = stand ∙ ap placed_in v.2 in
       record {
         cs = v.0;
         next = v.1;
         read = v.2;
-        kept = placed_kept b.bytes bytes (contribs_in r.index) v.0 v.1 v.2 (h.1 ∙ (λ j. places_of (o j) (v.2 j)));
+        placed = placed;
+        kept = placed_kept b.bytes bytes (contribs_in index) v.0 v.1 v.2 placed;
         sum = v.4;
         fits = epoch_fits epoch (ap row5 v.4 ∙ v.3);
         comes = processed_opened base s b ∙ (λ j. after_opening base s b (v.2 j) (o j));
       }
 
--- an answer as code gives it
-module _ (r : Opened) (o : Outcome ℕ) (x : Read (List ContribOf)) where
-  pub refused_as : (n : Refusal) → (r.opening ≡ Err n) × (contribs_in r.index ≡ []) → o ≡ refused (row_number n) → OpenedAs r o x
-  refused_as n q e = (ap said_opening q.0 ∙ sym e, q.1 ∙ ap (λ (y : Outcome ℕ). places_of y x) (sym e))
+-- an epoch that is opened leaves room for the era behind it
+pub opened_fits : (era : ℕ) (b : BatchCall) (epoch : ℕ) → opened base era b ≡ done epoch → epoch + 1 < 2 ^ 64
+opened_fits era b epoch o = let v = opened_read_lem base era b epoch o in epoch_fits epoch (ap row5 v.4 ∙ v.3)
 
--- the index that was read stands beside an epoch; beside a refusal it counts none
-pub read_as : (o : Result ℕ Refusal) (index i : BatchIndex) (x : Outcome ℕ) (cs : List ContribOf) (c : ℕ) → (is_err o ≡ true → contribs_in i ≡ []) → (is_err o ≡ false → i ≡ index)
-    → said_opening o ≡ x → contribs_in index ≡ placed_from 8 cs → OpenedAs (record { opening = o; index = i }) x (value cs c)
-read_as (Ok epoch) index i x cs c none same q k = (q, ap contribs_in (same refl) ∙ k ∙ ap (λ (y : Outcome ℕ). places_of y (value cs c)) q)
-read_as (Err n) index i x cs c none same q k = (q, none refl ∙ ap (λ (y : Outcome ℕ). places_of y (value cs c)) q)
+-- a refusal as code gives it
+pub refused_as : (r : Result (ℕ × BatchIndex) Refusal) (o : Outcome ℕ) (x : Read (List ContribOf)) (n : Refusal) → r ≡ Err n → o ≡ refused (row_number n) → OpenedAs r o x
+refused_as r o x n q e = subst (λ (y : Result (ℕ × BatchIndex) Refusal). OpenedAs y o x) (sym q) e
+
+-- and what it tells
+module _ (r : Result (ℕ × BatchIndex) Refusal) (o : Outcome ℕ) (x : Read (List ContribOf)) (h : OpenedAs r o x) where
+  pub opened_ok : (epoch : ℕ) (index : BatchIndex) → r ≡ Ok (epoch, index) → (o ≡ done epoch) × (contribs_in index ≡ placed_in x)
+  opened_ok epoch index q = subst (λ (y : Result (ℕ × BatchIndex) Refusal). OpenedAs y o x) q h

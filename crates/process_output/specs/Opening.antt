@@ -1,19 +1,20 @@
 -- Rows 1 to 4, 15 and 5 of a batch call, before anything is done: what they need of the state is the era.
-use Rattle.std.specs.Prelude.{ℕ, ◌+◌, ◌≡◌, List, [], Bool, true, false, cond, Err}
+use Rattle.std.specs.Prelude.{ℕ, ◌+◌, ◌≡◌, List, Bool, true, false, cond, Ok, Err}
 use Rattle.std.specs.declared.result.Result.{Result}
 use Rattle.bincode.specs.Read.{Read, value, refuse}
 use Rattle.bincode.specs.Outcome.{Outcome, done, refused}
 use Rattle.bincode.specs.Answer.{outcome_as_said}
+use Rattle.bincode.specs.Rows.{row_number}
 use Rattle.bincode.specs.Sizes.{Sizes}
 use Rattle.bincode.specs.declared.Refusal.{Refusal}
 use Rattle.bincode.specs.declared.Refusal.TheVariants.{ShortBuffer}
-use Rattle.internal_contrib.specs.declared.Contrib.{Contrib}
 use Rattle.internal_contrib.specs.InternalContrib.{ContribOf, read_batch}
 use Rattle.internal_contrib.specs.declared.BatchIndex.{BatchIndex}
 use Rattle.internal_contrib.specs.Places.{message_count}
-use Rattle.internal_contrib.specs.Index.{placed_from, placed_in, contribs_in, Indexed}
+use Rattle.internal_contrib.specs.Index.{placed_in, contribs_in, Indexed}
 use Rattle.dynamic_honey_badger.specs.Asked.{row5}
-use Rattle.process_output.specs.declared.Opened.{Opened}
+use Rattle.process_output.specs.declared.Agreed.{Agreed}
+use Rattle.process_output.specs.declared.LentPlaces.{LentPlaces}
 use Rattle.process_output.specs.Refusals.{batch_row1, batch_row4, batch_row15}
 use Rattle.process_output.specs.Process.{BatchCall}
 
@@ -33,17 +34,10 @@ opened_read era b (refuse n) = refused n
 unfoldable pub opened : Sizes → ℕ → BatchCall → Outcome ℕ
 opened z era b = cond (batch_row1 z b.fault_places b.due_places) (refused 1) (opened_read era b (read_batch z b.bytes))
 
--- where the contributions of a batch stand that is not refused
-abbrev pub places_of : Outcome ℕ → Read (List ContribOf) → List Contrib
-places_of (done epoch) x = placed_in x
-places_of (refused n) x = []
-
--- as code says it
-abbrev pub said_opening : Result ℕ Refusal → Outcome ℕ
-said_opening r = outcome_as_said (λ (epoch : ℕ). epoch) r
-
-abbrev pub OpenedAs : Opened → Outcome ℕ → Read (List ContribOf) → Type 0
-OpenedAs r o x = (said_opening r.opening ≡ o) × (contribs_in r.index ≡ places_of o x)
+-- as code says it: with an epoch it notes where the contributions stand
+abbrev pub OpenedAs : Result (ℕ × BatchIndex) Refusal → Outcome ℕ → Read (List ContribOf) → Type 0
+OpenedAs (Ok (epoch, index)) o x = (o ≡ done epoch) × (contribs_in index ≡ placed_in x)
+OpenedAs (Err n) o x = o ≡ refused (row_number n)
 
 -- row 1 where the lent lists are short, else what reading the batch comes to
 abbrev pub ReadAs : Result (BatchIndex × ℕ) Refusal → Bool → Read (List ContribOf) → Type 0
@@ -54,13 +48,12 @@ abbrev pub call_of : ℕ → ℕ → List ℕ → List ℕ → ℕ → ℕ → B
 call_of era inner bytes verdicts fault_places due_places =
     record { era = era; inner = inner; bytes = bytes; verdicts = verdicts; fault_places = fault_places; due_places = due_places }
 
--- rows 4, 15 and 5, said of a batch that is read: the epoch alone, and with where its contributions stand
+-- of a batch as it was agreed, with the places of the lent lists
+abbrev pub call_by : Agreed → LentPlaces → BatchCall
+call_by g places = call_of g.era g.epoch g.batch.now g.verdicts.now places.faults places.due
+
+-- rows 4, 15 and 5, said of a batch that is read
 abbrev pub EpochBy : Result ℕ Refusal → ℕ → ℕ → ℕ → List ℕ → ℕ → Type 0
 EpochBy r era batch-era inner verdicts messages =
     (bytes : List ℕ) (cs : List ContribOf) (places dues : ℕ) → messages ≡ message_count cs
-    → said_opening r ≡ opened_contribs era (call_of batch-era inner bytes verdicts places dues) cs
-
-abbrev pub OpenedBy : Opened → ℕ → ℕ → ℕ → List ℕ → ℕ → BatchIndex → Type 0
-OpenedBy r era batch-era inner verdicts messages index =
-    (bytes : List ℕ) (cs : List ContribOf) (c places dues : ℕ) → messages ≡ message_count cs → contribs_in index ≡ placed_from 8 cs
-    → OpenedAs r (opened_contribs era (call_of batch-era inner bytes verdicts places dues) cs) (value cs c)
+    → outcome_as_said (λ (epoch : ℕ). epoch) r ≡ opened_contribs era (call_of batch-era inner bytes verdicts places dues) cs

@@ -1,13 +1,12 @@
 // dynamic_honey_badger.rs, `process_output`, before its loop: rows 1 to 4, 15 and 5. One pass reads the batch, refuses, and notes where its contributions stand.
 #![tactic(auto)]
 
-ghost use Rattle.std.specs.Prelude.{◌≡◌, Err, [], ◌+◌, not, ◌||◌, eqb, length};
+ghost use Rattle.std.specs.Prelude.{◌≡◌, not, ◌||◌, eqb, length};
 ghost use Rattle.bincode.specs.Sizes.{base};
 ghost use Rattle.bincode.specs.Stands.{Bytes};
 ghost use Rattle.internal_contrib.specs.InternalContrib.{read_batch};
-ghost use Rattle.internal_contrib.specs.Index.{contribs_in};
 ghost use Rattle.process_output.specs.Refusals.{some, no_verdict, batch_row1};
-ghost use Rattle.process_output.specs.Opening.{ReadAs, opened, OpenedAs, EpochBy, OpenedBy, call_of};
+ghost use Rattle.process_output.specs.Opening.{ReadAs, opened, OpenedAs, EpochBy, call_by};
 
 use bincode::Refusal;
 use due::DueList;
@@ -23,11 +22,11 @@ pub struct Agreed<'a> {
     pub verdicts: &'a [u8],
 }
 
-// The batch's epoch, or the refusal met first; with an epoch, where the contributions stand, and beside a refusal the index notes none.
+// How many faults, and how many due items, the lent lists have places for.
 #[derive(Clone, Copy)]
-pub struct Opened {
-    pub opening: Result<u64, Refusal>,
-    pub index: BatchIndex,
+pub struct LentPlaces {
+    pub faults: usize,
+    pub due: usize,
 }
 
 // Row 4: a byte over 3.
@@ -44,16 +43,6 @@ fn is_ill_formed(verdicts: &[u8], messages: u64) -> bool
     verdicts.len() as u64 != messages || has_bad_verdict(verdicts)
 }
 
-// A refusal, with no contribution noted.
-fn refused(r: Refusal) -> Opened
-    ensures { (result.opening ≡ Err r) × (contribs_in result.index ≡ []) }
-{
-    Opened {
-        opening: Err(r),
-        index: BatchIndex::empty(),
-    }
-}
-
 // Rows 4, 15 and 5, in this order; else the batch's epoch.
 fn epoch_of(era: u64, agreed: Agreed, messages: u64) -> Result<u64, Refusal>
     ensures { EpochBy result era agreed.entry.era agreed.entry.epoch agreed.entry.verdicts.now messages }
@@ -67,42 +56,29 @@ fn epoch_of(era: u64, agreed: Agreed, messages: u64) -> Result<u64, Refusal>
     dynamic_honey_badger::epoch_in(era, agreed.epoch)
 }
 
-// The same of a batch that was read, with where its contributions stand; beside a refusal none counts. There the index that was read is used again, since a fresh one
-// would be written out place by place.
-fn open_read(era: u64, agreed: Agreed, messages: u64, mut index: BatchIndex) -> Opened
-    ensures { OpenedBy result era agreed.entry.era agreed.entry.epoch agreed.entry.verdicts.now messages index }
-{
-    let opening = epoch_of(era, agreed, messages);
-    if opening.is_err() {
-        index.contribs.count = 0;
-    }
-    Opened { opening, index }
-}
-
 // Row 1 for lists shorter than 01 lends them; 2 and 3 of the bytes, else where the contributions stand and how many key messages there are.
-fn read_lent(
-    batch: &[u8],
-    fault_places: usize,
-    due_places: usize,
-) -> Result<(BatchIndex, u64), Refusal>
-    ensures { ReadAs result (batch_row1 base fault_places due_places) (read_batch base batch.now)
+fn read_lent(batch: &[u8], places: LentPlaces) -> Result<(BatchIndex, u64), Refusal>
+    ensures { ReadAs result (batch_row1 base places.faults places.due) (read_batch base batch.now)
         × Bytes batch.now }
 {
-    if fault_places < FaultLog::LIMIT || due_places < DueList::LIMIT {
+    if places.faults < FaultLog::LIMIT || places.due < DueList::LIMIT {
         return Err(Refusal::ShortBuffer);
     }
     internal_contrib::index_batch(batch)
 }
 
-// Rows 1 to 3; then verdicts, the batch's era and its epoch.
-pub fn open_batch(era: u64, agreed: Agreed, fault_places: usize, due_places: usize) -> Opened
+// Rows 1 to 3; then verdicts, the batch's era and its epoch. With the epoch, where the contributions stand.
+pub fn open_batch(
+    era: u64,
+    agreed: Agreed,
+    places: LentPlaces,
+) -> Result<(u64, BatchIndex), Refusal>
     ensures { OpenedAs result
-        (opened base era (call_of agreed.entry.era agreed.entry.epoch agreed.entry.batch.now agreed.entry.verdicts.now fault_places due_places))
+        (opened base era (call_by agreed.entry places))
         (read_batch base agreed.entry.batch.now)
         × Bytes agreed.entry.batch.now }
 {
-    match read_lent(agreed.batch, fault_places, due_places) {
-        Err(r) => refused(r),
-        Ok((index, messages)) => open_read(era, agreed, messages, index),
-    }
+    let (index, messages) = read_lent(agreed.batch, places)?;
+    let epoch = epoch_of(era, agreed, messages)?;
+    Ok((epoch, index))
 }

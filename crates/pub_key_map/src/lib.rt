@@ -1,17 +1,16 @@
 // A map from node id to key (the Rust's `PubKeyMap`): a count, then each id with its key, ids strictly ascending and no key 0.
 #![tactic(auto)]
 
-ghost use Rattle.std.specs.Prelude.{◌≡◌, ℕ, [], ◌+◌, ◌*◌, ◌≤◌, length};
-ghost use Rattle.bincode.specs.Read.{whole};
+ghost use Rattle.std.specs.Prelude.{◌≡◌, ℕ, List, [], ◌+◌, ◌*◌, ◌≤◌, length};
 ghost use Rattle.bincode.specs.Numbers.{fixed};
 ghost use Rattle.bincode.specs.Answer.{answer, step_of};
 ghost use Rattle.bincode.specs.Sizes.{base};
 ghost use Rattle.bincode.specs.Writing.{written, written_to};
 ghost use Rattle.pub_key_map.specs.declared.Node.{Node as NodeOf};
-ghost use Rattle.pub_key_map.specs.PubKeyMap.{id_of, nodes_of, map_held, same_nodes, read_node, read_map, node_bytes, map_bytes};
+ghost use Rattle.pub_key_map.specs.PubKeyMap.{id_of, nodes_of, map_held, read_node, read_map, node_bytes, map_bytes};
 
 use array_list::{ArrayList, Keyed};
-use bincode::{Encoded, Refusal};
+use bincode::{Decoded, Encoded, Refusal};
 
 // 01: a station's id and key.
 #[derive(Clone, Copy, PartialEq, Eq)]
@@ -58,6 +57,7 @@ impl PubKeyMap {
         }
     }
 
+    #[tactic(auto, unfolding(lists::specs::Lists::padded))]
     pub fn empty() -> Self
         ensures { result ≡ map_held [] }
     {
@@ -72,17 +72,10 @@ impl PubKeyMap {
     {
         self.nodes.len()
     }
-
-    // Whether two maps have the same nodes with the same keys.
-    #[tactic(auto, using(crate::proofs::MapLaws::map_eq))]
-    pub fn same(self, other: PubKeyMap) -> bool
-        ensures { result ≡ same_nodes (nodes_of self) (nodes_of other) }
-    {
-        self == other
-    }
 }
 
 // An id from `low` on, with its key.
+#[tactic(auto, using(bincode::proofs::NumberLaws::read_refused), unfolding(crate::specs::PubKeyMap::read_node))]
 fn read_node(s: &[u8], at: usize, low: u64) -> Result<(Node, usize), Refusal>
     ensures { result ≡ answer (λ (x : NodeOf). x) (read_node fixed s.now low at) }
 {
@@ -101,38 +94,36 @@ fn read_node(s: &[u8], at: usize, low: u64) -> Result<(Node, usize), Refusal>
     Ok((Node { id, key }, d))
 }
 
-pub fn read_map(s: &[u8], at: usize) -> Result<(PubKeyMap, usize), Refusal>
-    ensures { result ≡ answer map_held (read_map fixed base s.now at) }
-{
-    let Ok((n, first)) = bincode::read_u64(s, at) else {
-        return Err(Refusal::Malformed);
-    };
-    if (PubKeyMap::LIMIT as u64) < n {
-        return Err(Refusal::TooLarge);
+impl Decoded for PubKeyMap {
+    ghost Value = { List NodeOf };
+
+    ghost held = { map_held };
+
+    ghost read_at = { read_map fixed base };
+
+    #[tactic(auto, unfolding(crate::specs::PubKeyMap::read_map, bincode::specs::Items::counted, bincode::specs::Items::read_count))]
+    fn read(s: &[u8], at: usize) -> Result<(Self, usize), Refusal> {
+        let (n, first) = bincode::read_count(s, at, PubKeyMap::LIMIT as u64)?;
+        let count = n as usize;
+        let mut nodes = [Node { id: 0, key: 0 }; PubKeyMap::LIMIT];
+        let mut low: u64 = 0;
+        let mut c = first;
+        for node in nodes[..count].iter_mut() {
+            let (e, next) = read_node(s, c, low)?;
+            *node = e;
+            low = u64::from(e.id) + 1;
+            c = next;
+        }
+        Ok((PubKeyMap::new(count, nodes), c))
     }
-    let count = n as usize;
-    let mut nodes = [Node { id: 0, key: 0 }; PubKeyMap::LIMIT];
-    let mut low: u64 = 0;
-    let mut c = first;
-    for node in nodes[..count].iter_mut() {
-        let (e, next) = read_node(s, c, low)?;
-        *node = e;
-        low = u64::from(e.id) + 1;
-        c = next;
-    }
-    Ok((PubKeyMap::new(count, nodes), c))
 }
 
 // A map that is passed over: ids and keys are tested, none is kept.
+#[tactic(auto, unfolding(crate::specs::PubKeyMap::read_map, bincode::specs::Items::counted, bincode::specs::Items::read_count))]
 pub fn check_map(s: &[u8], at: usize) -> Result<usize, Refusal>
     ensures { result ≡ step_of (read_map fixed base s.now at) }
 {
-    let Ok((count, first)) = bincode::read_u64(s, at) else {
-        return Err(Refusal::Malformed);
-    };
-    if (PubKeyMap::LIMIT as u64) < count {
-        return Err(Refusal::TooLarge);
-    }
+    let (count, first) = bincode::read_count(s, at, PubKeyMap::LIMIT as u64)?;
     let mut low: u64 = 0;
     let mut c = first;
     for _ in 0..count {
@@ -143,15 +134,8 @@ pub fn check_map(s: &[u8], at: usize) -> Result<usize, Refusal>
     Ok(c)
 }
 
-// A map that is a whole input: nothing may be left over.
-#[tactic(auto, using(bincode::proofs::AnswerLaws::all_read_whole))]
-pub fn read_whole_map(s: &[u8]) -> Result<(PubKeyMap, usize), Refusal>
-    ensures { result ≡ answer map_held (whole (read_map fixed base s.now) s.now) }
-{
-    bincode::all_read(s, read_map(s, 0))
-}
-
 // How many bytes a map takes.
+#[tactic(auto, using(crate::proofs::MapLaws::length_map))]
 pub fn map_size(m: PubKeyMap) -> usize
     ensures { (result ≡ length (map_bytes fixed (nodes_of m))) × (result ≤ 8 + 12 * base.nodes) }
 {
@@ -162,33 +146,28 @@ pub fn map_size(m: PubKeyMap) -> usize
 fn write_node(buf: &mut [u8], at: usize, n: Node) -> usize
     ensures { (buf.new ≡ written buf.old at (node_bytes fixed n)) × (result ≡ written_to buf.old at (node_bytes fixed n)) }
 {
-    bincode::write_both(buf, at, n.id, n.key)
-}
-
-// The position behind the map, or `at` where it has no room; then nothing is written.
-pub fn write_map(buf: &mut [u8], at: usize, m: PubKeyMap) -> usize
-    ensures { (buf.new ≡ written buf.old at (map_bytes fixed (nodes_of m))) × (result ≡ written_to buf.old at (map_bytes fixed (nodes_of m))) }
-{
-    if bincode::room(buf.len(), at, map_size(m)) {
-        let n = m.len();
-        let mut c = bincode::write_u64(buf, at, n as u64);
-        for x in m.nodes.as_slice() {
-            c = write_node(buf, c, *x);
-        }
-        c
-    } else {
-        at
-    }
+    (n.id, n.key).write(buf, at)
 }
 
 impl Encoded for PubKeyMap {
     ghost bytes = { λ m. map_bytes fixed (nodes_of m) };
 
+    #[tactic(auto, using(bincode::proofs::WriteLaws::size_told))]
     fn size(&self) -> usize {
         map_size(*self)
     }
 
+    #[tactic(auto, unfolding(bincode::specs::Writing::written, bincode::specs::Writing::written_to))]
     fn write(&self, buf: &mut [u8], at: usize) -> usize {
-        write_map(buf, at, *self)
+        if bincode::room(buf.len(), at, map_size(*self)) {
+            let n = self.len();
+            let mut c = bincode::write_u64(buf, at, n as u64);
+            for x in self.nodes.as_slice() {
+                c = write_node(buf, c, *x);
+            }
+            c
+        } else {
+            at
+        }
     }
 }

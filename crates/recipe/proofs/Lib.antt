@@ -1,4 +1,3 @@
 pub mod MapLaws
-pub mod FillLaws
 pub mod RecipeLaws
 pub mod PageLaws

@@ -1,13 +1,11 @@
 -- 01: `generate` becomes a recipe: complete proposers ascending and, for each, the first t+1 acknowledgers with good values, by ascending
 -- index; an observer's names proposers only; if fewer exist, the recipe says that the share is missing.
 use Rattle.std.specs.Prelude.{ℕ, ◌+◌, List, [], ◌∷◌, map, Bool, false, cond, ◌||◌, length, take, ltb}
-use Rattle.std.specs.declared.option.Option.{Option}
 use Rattle.lists.specs.Lists.{present, filter}
 use Rattle.key_gen.specs.KeyGen.{ProposalOf, KeyGenOf, by_proposer, threshold, observes, complete, indices}
-use Rattle.recipe.specs.declared.Share.{Share}
-use Rattle.recipe.specs.declared.RecipeKind.{RecipeKind}
-use Rattle.recipe.specs.declared.RecipeKind.TheVariants as kind
+use Rattle.recipe.specs.declared.Share as shares
 use Rattle.recipe.specs.declared.Recipe.{Recipe}
+use Rattle.recipe.specs.declared.Recipe.TheVariants.{Observer, Share, Missing}
 
 -- a proposer with the acknowledgers whose values are used
 pub record ShareOf : Type 0 where
@@ -37,20 +35,11 @@ recipe g =
     (missing (map by_proposer (complete_parts g)))
     (share (map (share_of (threshold g)) (complete_parts g))))
 
--- as code holds it: flags by index, and a place for the share of each proposer
-abbrev pub kind_of : Bool → Bool → RecipeKind
-kind_of member short = cond member (cond short kind.Missing kind.Share) kind.Observer
-
-abbrev pub share_at : ℕ → Share → ShareOf
+-- as code holds it: proposers by index, flags or a place for the share of each
+abbrev pub share_at : ℕ → shares.Share → ShareOf
 share_at i s = record { proposer = i; used = indices s.used }
 
-abbrev pub place_of : ℕ → Share → ℕ
-place_of i s = i
-
-abbrev pub recipe_of_kind : RecipeKind → List (Option Share) → RecipeOf
-recipe_of_kind kind.Observer ss = observer (present place_of 0 ss)
-recipe_of_kind kind.Share ss = share (present share_at 0 ss)
-recipe_of_kind kind.Missing ss = missing (present place_of 0 ss)
-
 abbrev pub recipe_of : Recipe → RecipeOf
-recipe_of r = recipe_of_kind r.kind r.shares
+recipe_of (Observer complete) = observer (indices complete)
+recipe_of (Share shares) = share (present share_at 0 shares)
+recipe_of (Missing complete) = missing (indices complete)

@@ -3,7 +3,7 @@
 
 ghost use Rattle.std.specs.Prelude.{◌≡◌, ◌+◌};
 ghost use Rattle.key_gen.specs.KeyGen.{key_gen_of};
-ghost use Rattle.recipe.specs.Recipe.{recipe, recipe_of, kind_of};
+ghost use Rattle.recipe.specs.Recipe.{recipe, recipe_of};
 ghost use Rattle.recipe.specs.Places.{first_marks, short_in, share_in};
 
 use key_gen::{KeyGen, Proposal};
@@ -15,43 +15,31 @@ pub struct Share {
     pub used: [bool; PubKeyMap::LIMIT],
 }
 
+// The complete proposers by their indices; where the share can be made, what is used of each.
 #[derive(Clone, Copy)]
-pub enum RecipeKind {
-    Observer,
-    Share,
-    Missing,
-}
-
-// The shares of the complete proposers, at their indices; an observer's and a missing recipe name those proposers too.
-#[derive(Clone, Copy)]
-pub struct Recipe {
-    pub kind: RecipeKind,
-    pub shares: [Option<Share>; PubKeyMap::LIMIT],
+pub enum Recipe {
+    Observer([bool; PubKeyMap::LIMIT]),
+    Share([Option<Share>; PubKeyMap::LIMIT]),
+    Missing([bool; PubKeyMap::LIMIT]),
 }
 
 // The first t+1 of the marked places.
-fn first(good: [bool; PubKeyMap::LIMIT], t: usize) -> [bool; PubKeyMap::LIMIT]
+fn first(mut good: [bool; PubKeyMap::LIMIT], t: usize) -> [bool; PubKeyMap::LIMIT]
     ensures { result ≡ first_marks (t + 1) good }
 {
-    let mut out = [false; PubKeyMap::LIMIT];
     let mut taken: usize = 0;
-    for i in 0..PubKeyMap::LIMIT {
-        if good[i] && taken <= t {
-            out[i] = true;
-            taken += 1;
-        }
+    for flag in good.iter_mut() {
+        *flag = *flag && taken <= t;
+        taken += usize::from(*flag);
     }
-    out
+    good
 }
 
 // Whether a complete part stands at a place that has too few good values, no more than t.
 fn is_short(place: Option<Proposal>, t: usize) -> bool
     ensures { result ≡ short_in t place }
 {
-    match place {
-        Some(p) => p.is_complete(t) && key_gen::count_marked(p.good) <= t,
-        None => false,
-    }
+    place.is_some_and(|p| p.is_complete(t) && key_gen::count_marked(p.good) <= t)
 }
 
 impl Share {
@@ -59,36 +47,26 @@ impl Share {
     fn of_proposal(place: Option<Proposal>, t: usize) -> Option<Self>
         ensures { result ≡ share_in t place }
     {
-        match place {
-            Some(p) if p.is_complete(t) => Some(Share {
-                used: first(p.good, t),
-            }),
-            _ => None,
-        }
+        place.filter(|p| p.is_complete(t)).map(|p| Share {
+            used: first(p.good, t),
+        })
     }
 }
 
 impl Recipe {
-    // What `generate` adds up: the complete proposers and, for each, the first t+1 acknowledgers with good values.
+    // What `generate` adds up: the complete proposers and, for each, the first t+1 acknowledgers with good values. An observer has no share; where some
+    // complete proposer has too few good values, the share is missing.
     pub fn generate(g: KeyGen) -> Self
         ensures { recipe_of result ≡ recipe (key_gen_of g) }
     {
-        let map = g.pub_keys;
-        let t = util::max_faulty(map.len());
-        let short = g.proposals.iter().any(|p| is_short(*p, t));
-        let shares = g.proposals.map(|p| Share::of_proposal(p, t));
-        let kind = kind_of(network_info::is_member(map, g.our_id), short);
-        Recipe { kind, shares }
-    }
-}
-
-// An observer has no share; where some complete proposer has too few good values, the share is missing.
-fn kind_of(member: bool, short: bool) -> RecipeKind
-    ensures { result ≡ kind_of member short }
-{
-    match (member, short) {
-        (false, _) => RecipeKind::Observer,
-        (true, true) => RecipeKind::Missing,
-        (true, false) => RecipeKind::Share,
+        let t = network_info::num_faulty(g.pub_keys);
+        let complete = g.proposals.map(|p| p.is_some_and(|p| p.is_complete(t)));
+        if g.observes() {
+            return Recipe::Observer(complete);
+        }
+        if g.proposals.iter().any(|p| is_short(*p, t)) {
+            return Recipe::Missing(complete);
+        }
+        Recipe::Share(g.proposals.map(|p| Share::of_proposal(p, t)))
     }
 }

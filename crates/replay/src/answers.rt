@@ -3,12 +3,12 @@ use crate::text::{hex_with, put_list};
 use board::Board;
 use key_gen::KeyGen;
 use pub_key_map::PubKeyMap;
-use recipe::{Recipe, RecipeKind};
+use recipe::{Recipe, Share};
 use std::alloc::AllocError;
 use vote_counter::VoteCounter;
 use votes::SignedVote;
 
-// The name of a kind of fault, by the kind's number; past the last kind there is none.
+// The name of a kind of fault, by the kind's number; past the last kind there is none. Not a `Display`: 256 faults then take twice the time of their batch.
 pub(crate) fn kind_name(number: u8) -> &'static str {
     match number {
         0 => "InvalidVoteSignature",
@@ -63,41 +63,51 @@ pub(crate) fn put_due(
     })
 }
 
-// The places that are marked, ascending, with a plus between two; `-` for none.
-fn put_marked(out: &mut String, flags: [bool; PubKeyMap::LIMIT]) -> Result<(), AllocError> {
+// The places that are marked, ascending, with a mark between two; `-` for none.
+fn put_marked(
+    out: &mut String,
+    mark: &str,
+    flags: &[bool; PubKeyMap::LIMIT],
+) -> Result<(), AllocError> {
     let marked = flags.iter().enumerate().filter(|(_, flag)| **flag);
-    put_list(out, "+", marked, |out, (i, _)| write!(out, "{i}"))
+    put_list(out, mark, marked, |out, (i, _)| write!(out, "{i}"))
 }
 
-// The complete proposers, ascending, each with its first good acknowledgers where there is a share.
-fn put_shares(out: &mut String, r: Recipe, shown: bool) -> Result<(), AllocError> {
-    let shares = r.shares.iter().enumerate();
+// The complete proposers, ascending, each with its first good acknowledgers.
+fn put_shares(
+    out: &mut String,
+    shares: &[Option<Share>; PubKeyMap::LIMIT],
+) -> Result<(), AllocError> {
+    let shares = shares.iter().enumerate();
     let complete = shares.filter_map(|(i, share)| Some((i, (*share)?)));
     put_list(out, ",", complete, |out, (i, share)| {
-        write!(out, "{i}")?;
-        if shown {
-            out.push_str(":")?;
-            put_marked(out, share.used)?;
-        }
-        Ok(())
+        write!(out, "{i}:")?;
+        put_marked(out, "+", &share.used)
     })
 }
 
 // The recipe: a word and the complete proposers.
-pub(crate) fn put_recipe(out: &mut String, r: Recipe) -> Result<(), AllocError> {
-    let (word, shown) = match r.kind {
-        RecipeKind::Observer => ("observer", false),
-        RecipeKind::Share => ("share", true),
-        RecipeKind::Missing => ("missing", false),
-    };
-    write!(out, "{word} ")?;
-    put_shares(out, r, shown)
+pub(crate) fn put_recipe(out: &mut String, r: &Recipe) -> Result<(), AllocError> {
+    match r {
+        Recipe::Observer(complete) => {
+            out.push_str("observer ")?;
+            put_marked(out, ",", complete)
+        }
+        Recipe::Share(shares) => {
+            out.push_str("share ")?;
+            put_shares(out, shares)
+        }
+        Recipe::Missing(complete) => {
+            out.push_str("missing ")?;
+            put_marked(out, ",", complete)
+        }
+    }
 }
 
 // Committed votes by ascending voter, each as `VOTER:NUMBER:CHANGE`; `-` for none.
 pub(crate) fn put_votes(out: &mut String, votes: &[SignedVote]) -> Result<(), AllocError> {
     put_list(out, ",", votes.iter(), |out, x| {
-        let change = hex_with(*out.allocator(), x.vote.change, change::write_change)?;
+        let change = hex_with(*out.allocator(), x.vote.change)?;
         write!(out, "{}:{}:{change}", x.voter, x.vote.num)
     })
 }
@@ -106,7 +116,7 @@ pub(crate) fn put_votes(out: &mut String, votes: &[SignedVote]) -> Result<(), Al
 pub(crate) fn put_board(out: &mut String, counter: &VoteCounter) -> Result<(), AllocError> {
     let rows = (0..Board::LIMIT).map_while(|i| counter.board_row(i));
     put_list(out, ",", rows, |out, row| {
-        let change = hex_with(*out.allocator(), row.change, change::write_change)?;
+        let change = hex_with(*out.allocator(), row.change)?;
         write!(out, "{}:{change}", row.count)
     })
 }
@@ -117,6 +127,6 @@ pub(crate) fn put_parts(out: &mut String, g: &KeyGen) -> Result<(), AllocError> 
     let recorded = proposals.filter_map(|(i, p)| Some((i, (*p)?)));
     put_list(out, ",", recorded, |out, (i, p)| {
         write!(out, "{i}:{}:", p.commit)?;
-        put_marked(out, p.acks)
+        put_marked(out, "+", &p.acks)
     })
 }

@@ -13,9 +13,9 @@ use std::alloc::AllocError;
 // A report: its epoch, era, change, map and params.
 fn put_batch(out: &mut String, b: Batch) -> Result<(), AllocError> {
     let alloc = *out.allocator();
-    let change = hex_with(alloc, b.change, change::write_state)?;
-    let map = hex_with(alloc, b.pub_keys, pub_key_map::write_map)?;
-    let params = hex_with(alloc, b.params, params::write_params)?;
+    let change = hex_with(alloc, b.change)?;
+    let map = hex_with(alloc, b.pub_keys)?;
+    let params = hex_with(alloc, b.params)?;
     write!(out, "batch {} {} {change} {map} {params}", b.epoch, b.era)
 }
 
@@ -31,7 +31,7 @@ fn put_due_items(out: &mut String, lists: &Lists, n: usize) -> Result<(), AllocE
 }
 
 // The recipe, where there is one.
-fn put_made(out: &mut String, recipe: Option<Recipe>) -> Result<(), AllocError> {
+fn put_made(out: &mut String, recipe: &Option<Recipe>) -> Result<(), AllocError> {
     out.push_str(" recipe ")?;
     match recipe {
         Some(r) => put_recipe(out, r),
@@ -45,7 +45,7 @@ fn put_report(out: &mut String, r: Report, lists: &Lists) -> Result<(), AllocErr
     out.push_str(" faults ")?;
     put_faults(out, lists.ids.first(r.faults), lists.kinds.first(r.faults))?;
     put_due_items(out, lists, r.due)?;
-    put_made(out, r.recipe)
+    put_made(out, &r.recipe)
 }
 
 // Says what a batch answers, looks at the places behind those filled, and clears the lists for the next call.

@@ -6,7 +6,7 @@ use memchr::memchr;
 use std::alloc::Global;
 
 // The greatest length that a line can name for what is lent.
-pub const MOST_PLACES: u64 = 2000;
+pub const MOST_PLACES: usize = 2000;
 
 // What is left of a line behind the fields that were taken; nothing behind the last of them.
 #[derive(Clone, Copy)]
@@ -52,8 +52,8 @@ impl<'a> Fields<'a> {
 
     // A length that is lent.
     pub(crate) fn places(&mut self) -> Result<usize, Failure> {
-        match self.number()? {
-            n @ 0..=MOST_PLACES => Ok(n as usize),
+        match self.number()? as usize {
+            n @ 0..=MOST_PLACES => Ok(n),
             _ => Err(Failure::BadLine),
         }
     }

@@ -24,11 +24,7 @@ pub struct Host {
 
 // The bytes of the message that broadcasts an own vote.
 fn say_cast(out: &mut String, vote: SignedVote) -> Result<(), AllocError> {
-    let bytes = hex_with(
-        *out.allocator(),
-        Message::SignedVote(vote),
-        message::write_message,
-    )?;
+    let bytes = hex_with(*out.allocator(), Message::SignedVote(vote))?;
     writeln!(out, "vote {bytes}")
 }
 
@@ -41,15 +37,16 @@ fn say_vote(out: &mut String, outcome: Result<Option<SignedVote>, Refusal>) -> R
     Ok(())
 }
 
-// What a message answers: a fault is its sender's.
+// What a message answers: a fault is its sender's, and a due item has none.
 fn say_handled(
     out: &mut String,
-    sender: u32,
+    sender: Option<u32>,
     outcome: Result<Option<FaultKind>, Refusal>,
 ) -> Result<(), Failure> {
-    match outcome? {
-        Some(kind) => writeln!(out, "fault {sender}:{}", kind_name(kind.number()))?,
-        None => writeln!(out, "handled")?,
+    match (outcome?, sender) {
+        (Some(kind), Some(id)) => writeln!(out, "fault {id}:{}", kind_name(u8::from(kind)))?,
+        (Some(kind), None) => writeln!(out, "fault {}", kind_name(u8::from(kind)))?,
+        (None, _) => writeln!(out, "handled")?,
     }
     Ok(())
 }
@@ -114,14 +111,13 @@ impl Host {
     fn receive(&mut self, sender: u32, message: &[u8], out: &mut String) -> Result<(), Failure> {
         let r = self.replica.handle_message(sender, message);
         self.replica = r.state;
-        say_handled(out, sender, r.outcome)
+        say_handled(out, Some(sender), r.outcome)
     }
 
-    // A due item has no sender whose fault it could be.
     fn take_back(&mut self, item: &[u8], out: &mut String) -> Result<(), Failure> {
         let r = due_item::handle_due_item(self.replica, item);
         self.replica = r.state;
-        say_handled(out, 0, r.outcome)
+        say_handled(out, None, r.outcome)
     }
 
     fn vote_for(&mut self, change: &[u8], out: &mut String) -> Result<(), Failure> {

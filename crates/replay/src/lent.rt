@@ -1,10 +1,11 @@
 // The lists that a call is lent: every place holds a pattern, so a place that is written for nothing shows in the answer. The lists last from call to call; the
 // places that a call filled get the pattern back.
+use crate::fields::MOST_PLACES;
 use crate::text::first;
 use std::alloc::{AllocError, Global};
 
 // The places of each list: as many as a line can name, and some behind that no call is lent.
-pub const PLACES: usize = 2016;
+pub const PLACES: usize = MOST_PLACES + GUARDS;
 
 pub const GUARDS: usize = 16;
 

@@ -17,7 +17,8 @@ use Rattle.signed_votes.specs.declared.SignedVotes.{SignedVotes}
 use Rattle.signed_votes.specs.SignedVotes.{held, votes_of, voter_of, num_of}
 
 -- the number that a look-up among the structs finds
-pub held_num : (t : SignedVotes) (k : ℕ) → map_found (λ (x : SignedVote). x.vote.num) (lookup voter_in (held t) k) ≡ map_found num_of (lookup voter_of (votes_of t) k)
+pub held_num : (t : SignedVotes) (k : ℕ)
+    → map_found (λ (x : SignedVote). x.vote.num) (lookup voter_in (held t) k) ≡ map_found num_of (lookup voter_of (votes_of t) k)
 held_num t k = go (lookup voter_in (held t) k) ∙ ap (map_found num_of) (map_lookup signed_of voter_of (held t) k)
   where
     go : (f : Found SignedVote) → map_found (λ (x : SignedVote). x.vote.num) f ≡ map_found num_of (map_found signed_of f)

@@ -1,4 +1,5 @@
 // The bytes of a season: batches of one contribution, by node 3, and messages.
+use bincode::Encoded;
 use change::Change;
 use key_gen_message::{KeyGenMessage, SignedKeyGenMsg};
 use message::Message;
@@ -10,14 +11,6 @@ use votes::{SignedVote, Vote};
 // How many parts are acknowledged: those with the least indices.
 const ACKED: u64 = 4;
 
-// The room for a batch or a message.
-const ROOM: usize = 4096;
-
-// The first n bytes, all where there are fewer.
-pub(crate) fn first(s: &[u8], n: usize) -> &[u8] {
-    s.get(..n).unwrap_or(s)
-}
-
 // A node of the season: node i has key 100 + i.
 pub(crate) fn node(id: u32) -> Node {
     Node::new(id, 100 + u64::from(id))
@@ -25,11 +18,9 @@ pub(crate) fn node(id: u32) -> Node {
 
 // The map of nodes 1 to n.
 pub(crate) fn roster(n: u32) -> PubKeyMap {
-    let mut map = PubKeyMap::empty();
-    for i in 0..n {
-        map = node_change::with_node(map, node(i + 1));
-    }
-    map
+    (1..=n).fold(PubKeyMap::empty(), |map, id| {
+        node_change::with_node(map, node(id))
+    })
 }
 
 // A handle for each node.
@@ -108,49 +99,34 @@ fn add_acks(
     Ok(())
 }
 
-// Opens a batch of one contribution: its proposer, four user bytes, and how many key messages follow.
-fn open(buf: &mut [u8], user: u32, messages: u64) -> usize {
-    let a = bincode::write_u64(buf, 0, 1);
-    let b = bincode::write_u32(buf, a, 3);
-    let c = bincode::write_u64(buf, b, 4);
-    let d = bincode::write_u32(buf, c, user);
-    bincode::write_u64(buf, d, messages)
+// The bytes of a value.
+pub(crate) fn encoded<T: Encoded>(alloc: Global, value: T) -> Result<Vec<u8>, AllocError> {
+    let mut bytes = vec![in alloc; 0u8; value.size()]?;
+    value.write(&mut bytes, 0);
+    Ok(bytes)
 }
 
-// Values one behind the other, by the writer of their kind.
-fn write_all<T: Copy, W: Fn(&mut [u8], usize, T) -> usize>(
-    buf: &mut [u8],
-    at: usize,
-    values: &[T],
-    write: W,
-) -> usize
-    requires { W.IsAlwaysCallable write }
-{
-    let mut c = at;
+// How many values there are, and each.
+fn add_all<T: Encoded>(bytes: &mut Vec<u8>, values: &[T]) -> Result<(), AllocError> {
+    let alloc = *bytes.allocator();
+    bytes.extend_from_slice(&encoded(alloc, values.len() as u64)?)?;
     for x in values {
-        c = write(buf, c, *x);
+        bytes.extend_from_slice(&encoded(alloc, *x)?)?;
     }
-    c
+    Ok(())
 }
 
-// The first n bytes of what was written.
-fn written(alloc: Global, buf: &[u8], n: usize) -> Result<Vec<u8>, AllocError> {
-    first(buf, n).to_vec(alloc)
-}
-
-// A batch of one contribution with key messages and votes.
+// A batch of one contribution, by node 3, with four user bytes, key messages and votes.
 fn batch(
     alloc: Global,
     user: u32,
     messages: &[SignedKeyGenMsg],
     votes: &[SignedVote],
 ) -> Result<Vec<u8>, AllocError> {
-    let mut buf = [0u8; ROOM];
-    let a = open(&mut buf, user, messages.len() as u64);
-    let b = write_all(&mut buf, a, messages, key_gen_message::write_signed);
-    let c = bincode::write_u64(&mut buf, b, votes.len() as u64);
-    let len = write_all(&mut buf, c, votes, votes::write_signed_vote);
-    written(alloc, &buf, len)
+    let mut bytes = encoded(alloc, (1u64, 3u32, 4u64, user))?;
+    add_all(&mut bytes, messages)?;
+    add_all(&mut bytes, votes)?;
+    Ok(bytes)
 }
 
 // A batch without a contribution takes 8 bytes; what is longer has bytes left over.
@@ -212,13 +188,6 @@ pub(crate) fn parts_and_acks(
     batch(alloc, 45, &messages, &[])
 }
 
-// The bytes of a message.
-fn wire(alloc: Global, message: Message) -> Result<Vec<u8>, AllocError> {
-    let mut buf = [0u8; ROOM];
-    let len = message::write_message(&mut buf, 0, message);
-    written(alloc, &buf, len)
-}
-
 // A vote of a node, as a message.
 pub(crate) fn vote_message(
     alloc: Global,
@@ -226,7 +195,7 @@ pub(crate) fn vote_message(
     id: u32,
     change: Change,
 ) -> Result<Vec<u8>, AllocError> {
-    wire(alloc, Message::of_vote(vote(era, id, change)))
+    encoded(alloc, Message::of_vote(vote(era, id, change)))
 }
 
 // A key message of a node, as a message.
@@ -236,5 +205,5 @@ pub(crate) fn key_message(
     id: u32,
     message: KeyGenMessage,
 ) -> Result<Vec<u8>, AllocError> {
-    wire(alloc, Message::of_key_gen(era, message, node(id).key))
+    encoded(alloc, Message::of_key_gen(era, message, node(id).key))
 }

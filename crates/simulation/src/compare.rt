@@ -1,11 +1,14 @@
 // In what two replicas differ first, in what they tell and in what they hold of what is shared.
 use crate::calls::Called;
 use batch::Batch;
-use board::{Board, Standing};
+use bincode::Encoded;
+use board::Board;
+use change::Change;
 use dynamic_honey_badger::DynamicHoneyBadger;
 use fault_log::{AckFault, FaultKind, PartFault};
 use key_gen::Proposal;
 use key_gen_state::KeyGenState;
+use pub_key_map::PubKeyMap;
 use signed_votes::SignedVotes;
 use std::fmt;
 use vote_counter::VoteCounter;
@@ -46,57 +49,41 @@ fn first_difference(parts: &[(Difference, bool)]) -> Option<Difference> {
 }
 
 // By their bytes: what is not encoded is not compared.
-fn same_bytes<T, W: Fn(&mut [u8], usize, T) -> usize>(a: T, b: T, write: W) -> bool
-    requires { W.IsAlwaysCallable write }
-{
+fn same_bytes<T: Encoded>(a: T, b: T) -> bool {
     let mut x = [0u8; 256];
     let mut y = [0u8; 256];
-    let n = write(&mut x, 0, a);
-    let m = write(&mut y, 0, b);
-    n == m && x == y
-}
-
-// Both are missing, or both are there and the same.
-fn same_option<T: Copy, F: FnOnce(T, T) -> bool>(a: Option<T>, b: Option<T>, same: F) -> bool
-    requires { F.IsAlwaysCallable same }
-{
-    match (a, b) {
-        (Some(x), Some(y)) => same(x, y),
-        (None, None) => true,
-        _ => false,
-    }
+    a.write(&mut x, 0) == b.write(&mut y, 0) && x == y
 }
 
 fn same_votes(a: SignedVotes, b: SignedVotes) -> bool {
     let (a, b) = (a.votes.as_slice(), b.votes.as_slice());
-    a.len() == b.len()
-        && a.iter()
-            .zip(b)
-            .all(|(x, y)| same_bytes(*x, *y, votes::write_signed_vote))
+    a.len() == b.len() && a.iter().zip(b).all(|(x, y)| same_bytes(*x, *y))
 }
 
-// Row by row, as the counters hand them out.
+// A row of the board as the counter hands it out.
+fn row(counter: VoteCounter, place: usize) -> Option<(usize, Change)> {
+    counter.board_row(place).map(|row| (row.count, row.change))
+}
+
 fn same_board(a: VoteCounter, b: VoteCounter) -> bool {
-    (0..Board::LIMIT).all(|i| {
-        same_option(a.board_row(i), b.board_row(i), |x: Standing, y: Standing| {
-            x.count == y.count && x.change.same(y.change)
-        })
+    (0..Board::LIMIT).all(|place| row(a, place) == row(b, place))
+}
+
+// The commitment of a proposer, and who acknowledged it.
+pub type SharedProposal = (u64, [bool; PubKeyMap::LIMIT]);
+
+// What replicas share of a proposer: good values are a replica's own.
+fn shared(proposal: Option<Proposal>) -> Option<SharedProposal> {
+    proposal.map(|p| {
+        let acks = p.acks;
+        (p.commit, acks)
     })
 }
 
-// Good values are a replica's own.
-fn same_proposal(a: Proposal, b: Proposal) -> bool {
-    a.commit == b.commit && a.acks == b.acks
-}
-
-// Message counts are a replica's own.
-fn same_key_gen(a: KeyGenState, b: KeyGenState) -> bool {
-    let (a, b) = (a.key_gen, b.key_gen);
-    a.pub_keys.same(b.pub_keys)
-        && a.proposals
-            .iter()
-            .zip(&b.proposals)
-            .all(|(x, y)| same_option(*x, *y, same_proposal))
+// What replicas share of a key generation: message counts are a replica's own.
+fn shared_key_gen(state: KeyGenState) -> (PubKeyMap, [Option<SharedProposal>; PubKeyMap::LIMIT]) {
+    let key_gen = state.key_gen;
+    (key_gen.pub_keys, key_gen.proposals.map(shared))
 }
 
 // Era, map, committed votes, board, parameters and key generation.
@@ -105,22 +92,24 @@ pub(crate) fn shared_difference(
     b: &DynamicHoneyBadger,
 ) -> Option<Difference> {
     let (x, y) = (a.vote_counter, b.vote_counter);
-    let generating = same_option(a.key_gen_state, b.key_gen_state, same_key_gen);
     first_difference(&[
         (Difference::Era, x.era == y.era),
-        (Difference::Roster, x.pub_keys.same(y.pub_keys)),
+        (Difference::Roster, x.pub_keys == y.pub_keys),
         (Difference::Votes, same_votes(x.committed, y.committed)),
         (Difference::Board, same_board(x, y)),
         (Difference::Params, a.params == b.params),
-        (Difference::KeyGeneration, generating),
+        (
+            Difference::KeyGeneration,
+            a.key_gen_state.map(shared_key_gen) == b.key_gen_state.map(shared_key_gen),
+        ),
     ])
 }
 
 fn same_batch(a: Batch, b: Batch) -> bool {
     a.epoch == b.epoch
         && a.era == b.era
-        && same_bytes(a.change, b.change, change::write_state)
-        && a.pub_keys.same(b.pub_keys)
+        && same_bytes(a.change, b.change)
+        && a.pub_keys == b.pub_keys
         && a.params == b.params
 }
 
@@ -135,7 +124,7 @@ fn is_own(kind: u8) -> bool {
         FaultKind::SyncKeyGenAck(AckFault::ValueCommitment),
     ]
     .iter()
-    .any(|own| own.number() == kind)
+    .any(|own| u8::from(*own) == kind)
 }
 
 // The faults that every replica must tell are the others.

@@ -99,30 +99,15 @@ impl Fleet {
         self.states.push(state).map_err(AllocError::from)
     }
 
-    // Replica i compared with the first, in what they hold.
-    fn state_difference(&self, i: usize) -> Option<Difference> {
-        shared_difference(self.states.first()?, self.states.get(i)?)
-    }
-
-    // Replica i takes a batch, as the first did; what it told, and then what it holds, is compared with the first.
-    fn follow(
-        &mut self,
-        led: &Called,
-        i: usize,
-        given: Given<'_>,
-    ) -> Result<Option<Difference>, AllocError> {
-        let Some(state) = self.states.get_mut(i) else {
+    // All but the first take a batch, as the first did; what each told, and then what it holds, is compared with the first, and the first that differs is told.
+    fn follow_all(&mut self, led: &Called, given: Given<'_>) -> Result<Differing, AllocError> {
+        let Some((first, others)) = self.states.split_first_mut() else {
             return Ok(None);
         };
-        let told = handle(self.alloc, state, i, given)?;
-        Ok(told_difference(led, &told).or_else(|| self.state_difference(i)))
-    }
-
-    // All but the first take a batch, as the first did; the first of them that differs is told.
-    fn follow_all(&mut self, led: &Called, given: Given<'_>) -> Result<Differing, AllocError> {
         let mut differing = None;
-        for i in 1..self.states.len() {
-            let d = self.follow(led, i, given)?;
+        for (i, state) in (1..).zip(others) {
+            let told = handle(self.alloc, state, i, given)?;
+            let d = told_difference(led, &told).or_else(|| shared_difference(first, state));
             differing = differing.or(d.map(|d| (i, d)));
         }
         Ok(differing)
@@ -149,7 +134,8 @@ impl Fleet {
 
     // The first replica that differs from the first of all in what it holds.
     fn differing(&self) -> Differing {
-        (1..self.states.len()).find_map(|i| self.state_difference(i).map(|d| (i, d)))
+        let (first, others) = self.states.split_first()?;
+        (1..).zip(others).find_map(|(i, state)| shared_difference(first, state).map(|d| (i, d)))
     }
 
     // Replica i alone is given a batch; then all are compared in what they hold, and the step's line is written.

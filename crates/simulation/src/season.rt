@@ -3,7 +3,6 @@ use crate::compare::shared_difference;
 use crate::fleet::{Fleet, Given, network};
 use crate::{batches, show};
 use batch::Batch;
-use bincode::Refusal;
 use change::Change;
 use due::DueList;
 use dynamic_honey_badger::{DynamicHoneyBadger, JoinStarted};
@@ -20,26 +19,13 @@ fn initial_params() -> Params {
     }
 }
 
-// A replica with an own id, in era 0 of nodes 1 to 4.
-fn replica(our_id: u32) -> Result<DynamicHoneyBadger, Refusal> {
-    let mut map = [0u8; 256];
-    let mut params = [0u8; 64];
-    let n = pub_key_map::write_map(&mut map, 0, batches::roster(4));
-    let m = params::write_params(&mut params, 0, initial_params());
-    DynamicHoneyBadger::new(
-        our_id,
-        batches::node(our_id).key,
-        0,
-        batches::first(&map, n),
-        batches::first(&params, m),
-    )
-}
-
-// Two validators and an observer.
+// Two validators and an observer, in era 0 of nodes 1 to 4.
 fn start(rt: &(impl Print + AllocGlobal)) -> anyhow::Result<Fleet> {
     let mut f = Fleet::new(rt.alloc());
+    let map = batches::encoded(f.alloc, batches::roster(4))?;
+    let params = batches::encoded(f.alloc, initial_params())?;
     for our_id in [1, 2, 9] {
-        match replica(our_id) {
+        match DynamicHoneyBadger::new(our_id, batches::node(our_id).key, 0, &map, &params) {
             Ok(state) => f.add(state)?,
             Err(_) => show::expect(rt, 0, false)?,
         }
@@ -96,29 +82,19 @@ fn shrink(rt: &impl Print, f: &mut Fleet) -> anyhow::Result<()> {
     f.take(rt, 6, Given::new(4, 2, &leaving))
 }
 
-// How many bytes the plan of a report has; none where there is no plan.
-fn plan_bytes(report: Option<Batch>, plan: &mut [u8]) -> usize {
-    let Some(batch) = report else {
-        return 0;
-    };
-    match batch.join_plan(plan, 1) {
-        Ok(Some(n)) => n,
-        _ => 0,
-    }
-}
-
-// Node 7 starts from the plan that a report gives; a plan of no bytes is refused.
-fn start_joining(report: Option<Batch>) -> Result<JoinStarted, Refusal> {
+// Node 7 starts from the plan that a report gives; none where there is no plan, or it is refused.
+fn start_joining(report: Option<Batch>) -> Option<JoinStarted> {
     let mut plan = [0u8; JoinPlan::BYTES];
-    let n = plan_bytes(report, &mut plan);
+    let n = report?.join_plan(&mut plan, 1).ok()??;
     DynamicHoneyBadger::new_joining(
         7,
         batches::node(7).key,
-        batches::first(&plan, n),
+        plan.get(..n)?,
         &mut [0u8; DueList::LIMIT],
         &mut [0u64; DueList::LIMIT],
         &mut [0u64; DueList::LIMIT],
     )
+    .ok()
 }
 
 // One replica more, compared with the first; says that it joined, where it stands where the first stands.
@@ -138,8 +114,8 @@ fn admit(rt: &impl Print, f: &mut Fleet, joiner: DynamicHoneyBadger) -> anyhow::
 // Step 7: a replica joins from the plan that the first replica's report gives.
 fn join(rt: &impl Print, f: &mut Fleet) -> anyhow::Result<()> {
     match start_joining(f.report) {
-        Ok(r) => admit(rt, f, r.state),
-        Err(_) => show::expect(rt, 7, false),
+        Some(r) => admit(rt, f, r.state),
+        None => show::expect(rt, 7, false),
     }
 }
 

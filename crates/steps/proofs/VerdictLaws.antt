@@ -1,13 +1,12 @@
 -- The verdicts of a batch, by the place of the next.
 -- Assumes nothing.
-use Prim.Native.Nat.{ℕ, ◌+◌, ◌≤◌, ◌<◌}
+use Prim.Native.Nat.{ℕ, ◌+◌, ◌<◌}
 use mathlib.Core.Path.{◌≡◌}
 use mathlib.Core.List.{List}
 use native.Mathlib.Numerals.{add-one}
-use lib.ListN.{length, drop, get_or}
+use lib.ListN.{length, drop}
 use lib.Seq.{drop-cons}
-use Rattle.lists.proofs.ListLaws.{rest_none}
-use Rattle.steps.specs.Steps.{first_verdict, other_verdicts}
+use Rattle.steps.specs.Steps.{other_verdicts}
 
 -- one verdict is used
 module _ (xs : List ℕ) (i : ℕ) where

@@ -47,7 +47,7 @@ module _ (s : List ℕ) where
   MessagesAt [] [] = Unit {0}
   MessagesAt [] (x ∷ xs) = ⊥
   MessagesAt (k ∷ ks) [] = ⊥
-  MessagesAt (k ∷ ks) (x ∷ xs) = ((c : ℕ) × (many (read_signed_key_gen_msg base s) k.message_count (k.messages + 8) ≡ value x.messages c)) × MessagesAt ks xs
+  MessagesAt (k ∷ ks) (x ∷ xs) = ((c : ℕ) × (many (read_signed_key_gen_msg base s) k.messages.count (k.messages.at + 8) ≡ value x.messages c)) × MessagesAt ks xs
 
   batch_listed : (ks : List Contrib) (xs : List ContribOf) (es : List Entry) → MessagesAt ks xs → length es + length (messages_in xs) ≤ base.items
       → map message_in (foldl (contrib_listed s) es ks) ≡ map message_in es ++ messages_in xs
@@ -55,9 +55,9 @@ module _ (s : List ℕ) where
   batch_listed [] (x ∷ xs) es p h = absurd p
   batch_listed (k ∷ ks) [] es p h = absurd p
   batch_listed (k ∷ ks) (x ∷ xs) es p h =
-      let new : List Entry = entries_from s k.message_count (k.messages + 8) in
-      let e : map message_in (entries_from s k.message_count (k.messages + 8)) ≡ x.messages = entries_read k.message_count (k.messages + 8) x.messages p.0.0 p.0.1 in
-      let l : length (entries_from s k.message_count (k.messages + 8)) ≡ length x.messages = sym (length-map new message_in) ∙ ap length e in
+      let new : List Entry = entries_from s k.messages.count (k.messages.at + 8) in
+      let e : map message_in (entries_from s k.messages.count (k.messages.at + 8)) ≡ x.messages = entries_read k.messages.count (k.messages.at + 8) x.messages p.0.0 p.0.1 in
+      let l : length (entries_from s k.messages.count (k.messages.at + 8)) ≡ length x.messages = sym (length-map new message_in) ∙ ap length e in
       let b : length es + length x.messages + length (messages_in xs) ≤ base.items = omega (arith, length-append x.messages (messages_in xs), h) in
       let all : foldl listed es new ≡ es ++ new = list_all es new (omega (arith, b, l)) in
       ap (λ (y : List Entry). map message_in (foldl (contrib_listed s) y ks)) all

@@ -4,6 +4,8 @@ use Prim.Native.Nat.{ℕ, zero, suc, ◌+◌, ◌-◌, ◌≤◌, ◌<◌}
 use mathlib.Core.Path.{◌≡◌, refl, sym, ap, ◌∙◌}
 use mathlib.Core.List.{List, [], ◌∷◌, ◌++◌, map, map-append}
 use mathlib.Core.Bool.{Bool, true, false, not, cond, ◌&&◌, ◌||◌}
+use mathlib.Core.Logic.{⊎_elim}
+use Rattle.std.proofs.lemmas.Bool.{cases_lt}
 use Rattle.std.specs.List.{list_any}
 use native.Mathlib.Omega.{arith}
 use lib.Dec.{ltb, eqb}
@@ -17,7 +19,8 @@ use Rattle.bincode.proofs.NumberLaws.{read_cut}
 use Rattle.filled.proofs.FillLaws.{capped_more, capped_same}
 use Rattle.key_gen_message.specs.declared.KeyGenMessage.{KeyGenMessage}
 use Rattle.key_gen_message.specs.declared.KeyGenMessage.TheVariants.{Part, Ack}
-use Rattle.key_gen_message.specs.KeyGenMessage.{SignedKeyGenMsgOf, read_signed_key_gen_msg, same_signed, message_of}
+use Rattle.key_gen_message.specs.declared.SignedKeyGenMsg.{SignedKeyGenMsg}
+use Rattle.key_gen_message.specs.KeyGenMessage.{SignedKeyGenMsgOf, read_signed_key_gen_msg, same_signed, message_of, signed_of}
 use Rattle.key_gen_message.specs.Head.{body_of}
 use Rattle.key_gen_message.proofs.MessageLaws.{signed_true}
 use Rattle.message_store.specs.MessageStore.{is_other}
@@ -66,19 +69,22 @@ first_in (Part p) = refl
 first_in (Ack a) = refl
 
 -- by the small numbers, and by what is read
-module _ (s : List ℕ) (x : SignedKeyGenMsgOf) (p : MessagePlace) where
-  pub at_other_id : (x.id ≡ p.id → ⊥) → false ≡ stands_at s x p
+module _ (s : List ℕ) (x : SignedKeyGenMsg) (p : MessagePlace) where
+  pub at_other_id : (x.id ≡ p.id → ⊥) → false ≡ stands_at s (signed_of x) p
   unfolding stands_at
   at_other_id n = rw (ne_eqb x.id p.id n) refl
 
   module _ (e : x.id ≡ p.id) where
-    pub at_other_first : (first_of x ≡ p.first → ⊥) → false ≡ stands_at s x p
-    unfolding stands_at
-    at_other_first n = rw (eq-eqb x.id p.id e, ne_eqb (first_of x) p.first n) refl
+    number_known : eqb (number_in x.message) p.first ≡ eqb (first_of (signed_of x)) p.first
+    number_known = ap (λ (n : ℕ). eqb n p.first) (sym (first_in x.message))
 
-    pub at_place : first_of x ≡ p.first → stands_at s x p ≡ is_read x (read_signed_key_gen_msg base s p.at)
+    pub at_other_first : eqb (number_in x.message) p.first ≡ false → false ≡ stands_at s (signed_of x) p
     unfolding stands_at
-    at_place f = rw (eq-eqb x.id p.id e, eq-eqb (first_of x) p.first f) refl
+    at_other_first n = rw (eq-eqb x.id p.id e, sym number_known ∙ n) refl
+
+    pub at_place : eqb (number_in x.message) p.first ≡ true → is_read (signed_of x) (read_signed_key_gen_msg base s p.at) ≡ stands_at s (signed_of x) p
+    unfolding stands_at
+    at_place n = rw (eq-eqb x.id p.id e, sym number_known ∙ n) refl
 
 -- a message is the one at a place if it equals the one that is read there
 stands : (s : List ℕ) (x : SignedKeyGenMsgOf) (e : Entry) → ReadAt s e → stands_at s x (place_of e) ≡ same_signed x e.message
@@ -116,10 +122,15 @@ module _ (s : List ℕ) (n i at : ℕ) where
   entries_end h = let k : n - i ≡ 0 = omega arith in rw k
 
 -- past the bytes nothing is read
-pub entries_past : (s : List ℕ) (n at : ℕ) → length s < at → entries_from s n (at + 8) ≡ []
+entries_past : (s : List ℕ) (n at : ℕ) → length s < at → entries_from s n at ≡ []
 unfolding entries_from read_signed_key_gen_msg
 entries_past s zero at h = refl
-entries_past s (suc n) at h = rw (read_cut 8 s (at + 8) (omega arith))
+entries_past s (suc n) at h = rw (read_cut 8 s at (omega arith))
+
+-- so that items whose count stands past the bytes can be looked for at that place as well as behind it
+pub entries_start : (s : List ℕ) (n at c : ℕ) → (at ≤ length s → c ≡ at + 8) × (length s < at → c ≡ at) → entries_from s n c ≡ entries_from s n (at + 8)
+entries_start s n at c h =
+    ⊎_elim (λ p. ap (entries_from s n) (h.1 p) ∙ entries_past s n at p ∙ sym (entries_past s n (at + 8) (omega (arith, p)))) (λ p. ap (entries_from s n) (h.0 p)) (cases_lt (length s) at)
 
 -- where they are listed
 pub none_at : (s : List ℕ) (x : SignedKeyGenMsgOf) (es : List Entry) (ps : List MessagePlace) → Listed s es ps → not (list_any (stands_at s x) ps) ≡ is_none (map message_in es) x

@@ -33,7 +33,7 @@ listed es e = take base.items (es ++ (e ∷ []))
 
 -- the messages of a contribution stand behind a count of eight bytes
 abbrev pub contrib_listed : List ℕ → List Entry → Contrib → List Entry
-contrib_listed s es k = foldl listed es (entries_from s k.message_count (k.messages + 8))
+contrib_listed s es k = foldl listed es (entries_from s k.messages.count (k.messages.at + 8))
 
 unfoldable pub entries_in : List ℕ → List Contrib → List Entry
 entries_in s ks = foldl (contrib_listed s) [] ks

@@ -6,12 +6,14 @@ ghost use Rattle.std.specs.Prelude.{◌≡◌, List, ℕ};
 ghost use Rattle.std.specs.List.{list_any};
 ghost use Rattle.array_list.specs.ArrayList.{items_in};
 ghost use Rattle.bincode.specs.Items.{foldl};
-ghost use Rattle.key_gen_message.specs.KeyGenMessage.{signed_of};
+ghost use Rattle.key_gen_message.specs.KeyGenMessage.{signed_of, read_signed_key_gen_msg};
+ghost use Rattle.bincode.specs.Sizes.{base};
 ghost use Rattle.internal_contrib.specs.Index.{contribs_in};
 ghost use Rattle.message_store.specs.MessageStore.{store_of};
-ghost use Rattle.store_filter.specs.Filter.{Entry, contrib_listed, entries_in, without_entries, number_in, no_place, stands_at, Listed};
+ghost use Rattle.store_filter.specs.Filter.{is_read, Entry, contrib_listed, entries_in, without_entries, number_in, no_place, stands_at, Listed};
 
 use array_list::ArrayList;
+use bincode::Decoded;
 use internal_contrib::{BatchIndex, Contrib};
 use key_gen_message::{KeyGenMessage, SignedKeyGenMsg};
 use message_store::MessageStore;
@@ -50,17 +52,21 @@ fn number_in(m: &KeyGenMessage) -> u64
     }
 }
 
+// Whether a stored message is the one that is read at a position. By a match, since a message that is handed to a closure is copied.
+fn is_read_at(x: &SignedKeyGenMsg, s: &[u8], at: usize) -> bool
+    ensures { result ≡ is_read (signed_of x.now) (read_signed_key_gen_msg base s.now at) }
+{
+    match SignedKeyGenMsg::read(s, at) {
+        Ok((m, _)) => *x == m,
+        Err(_) => false,
+    }
+}
+
 // Whether a stored message is the one that stands at a place: its small numbers are looked at before it is read.
 fn is_at(x: &SignedKeyGenMsg, p: &MessagePlace, s: &[u8]) -> bool
     ensures { result ≡ stands_at s.now (signed_of x.now) p.now }
 {
-    if x.id != p.id || number_in(&x.message) != p.first {
-        return false;
-    }
-    match key_gen_message::read_signed(s, p.at) {
-        Ok((m, _)) => x.same(m),
-        Err(_) => false,
-    }
+    x.id == p.id && number_in(&x.message) == p.first && is_read_at(x, s, p.at)
 }
 
 // Whether a stored message is one of those that are listed.
@@ -78,11 +84,8 @@ fn list_contrib(
 )
     ensures { (es : List Entry) → Listed s.now es (items_in places.old) → Listed s.now (contrib_listed s.now es e.now) (items_in places.new) }
 {
-    if s.len() < e.messages {
-        return;
-    }
-    let mut c = e.messages + 8;
-    for _ in 0..e.message_count {
+    let mut c = e.messages.first_item(s);
+    for _ in 0..e.messages.count {
         let Ok((h, next)) = key_gen_message::read_head(s, c) else {
             return;
         };

@@ -26,4 +26,6 @@ module _ (s : List ℕ) (z : Sizes) where
 
   pub ack_causes : Causes s (read_ack z s) (ack_wrong z s)
   unfolding read_ack
-  ack_causes = field (fixed_codes s 8 (lit< tt)) (fixed_causes s 8 (lit< tt)) λ proposer. last (λ values. record { proposer = proposer; values = values }) handles_causes
+  ack_causes =
+      field (fixed_codes s 8 (lit< tt)) (fixed_causes s 8 (lit< tt)) λ proposer.
+      last (λ values. record { proposer = proposer; values = values }) handles_causes

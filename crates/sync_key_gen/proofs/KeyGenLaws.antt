@@ -10,16 +10,14 @@ use lib.ListN.{length, length-append}
 use borrow.Author.Tests.{eq-eqb, eqb-true}
 use Rattle.lists.proofs.EqLaws.{pointwise_list}
 use Rattle.lists.proofs.ListLaws.{eq_list_true, eq_list_refl}
-use Rattle.bincode.specs.Read.{Read, value, refuse, bind, map_read}
-use Rattle.bincode.specs.Sizes.{Sizes}
-use Rattle.bincode.specs.Numbers.{bytes_of, read_num}
+use Rattle.bincode.specs.Numbers.{bytes_of}
 use Rattle.bincode.specs.Stands.{concat_map}
 use Rattle.bincode.proofs.NumberLaws.{length_bytes_of}
 use Rattle.bincode.specs.Writing.{written, written_to}
 use Rattle.bincode.proofs.WriteLaws.{Putting, put_counted}
 use Rattle.sync_key_gen.specs.declared.Handles.{Handles}
 use Rattle.sync_key_gen.specs.contracts.HandlesPartialEq.TheImpl.{eq-value}
-use Rattle.sync_key_gen.specs.SyncKeyGen.{handles_of, same_handles, PartOf, AckOf, read_handles, read_headed, read_part, read_ack, handles_bytes, part_bytes, ack_bytes}
+use Rattle.sync_key_gen.specs.SyncKeyGen.{handles_of, same_handles, PartOf, AckOf, handles_bytes, part_bytes, ack_bytes}
 
 length_values : (xs : List ℕ) → length (concat_map (bytes_of 8) xs) ≡ 8 * length xs
 length_values [] = refl
@@ -48,36 +46,11 @@ handles_refl = eq_list_refl eqb (λ x. eq-eqb x x refl)
 pub handles_eq : (a b : Handles) → (eq-value).it a b ≡ same_handles (handles_of a) (handles_of b)
 handles_eq a b = pointwise_list eqb (handles_of a) (handles_of b)
 
--- a part and an ack are read as a number with handles behind it
-module _ {A : Type 0} (f : ℕ × List ℕ → A) where
-  headed : (x : Read ℕ) (handles : ℕ → Read (List ℕ)) → bind x (λ n c. bind (handles c) λ xs d. value (f (n, xs)) d)
-      ≡ map_read f (bind x λ n c. bind (handles c) λ xs d. value (n, xs) d)
-  headed (value n c) handles = by_handles (handles c)
-    where
-      by_handles : (y : Read (List ℕ)) → bind y (λ xs d. value (f (n, xs)) d) ≡ map_read f (bind y λ xs d. value (n, xs) d)
-      by_handles (value xs d) = refl
-      by_handles (refuse m) = refl
-  headed (refuse m) handles = refl
-
-abbrev pub part_with : ℕ × List ℕ → PartOf
-part_with p = record { commit = p.0; rows = p.1 }
-
-abbrev pub ack_with : ℕ × List ℕ → AckOf
-ack_with p = record { proposer = p.0; values = p.1 }
-
-module _ (z : Sizes) (s : List ℕ) (at : ℕ) where
-  pub part_headed : read_part z s at ≡ map_read part_with (read_headed z s at)
-  unfolding read_part read_headed
-  part_headed = headed part_with (read_num 8 s at) (read_handles z s)
-
-  pub ack_headed : read_ack z s at ≡ map_read ack_with (read_headed z s at)
-  unfolding read_ack read_headed
-  ack_headed = headed ack_with (read_num 8 s at) (read_handles z s)
-
 -- handles whose count is written: what the loop over them keeps holds before the first turn
 module _ (h : Handles) (n : ℕ) (e : n ≡ length (handles_of h)) (buf : List ℕ) (at : ℕ) where
   pub put_handles : at + length (handles_bytes (handles_of h)) ≤ length buf
-      → Putting (bytes_of 8) (handles_of h) (written buf at (handles_bytes (handles_of h))) (written_to buf at (handles_bytes (handles_of h))) 0 (written buf at (bytes_of 8 n)) (written_to buf at (bytes_of 8 n))
+      → Putting (bytes_of 8) (handles_of h) (written buf at (handles_bytes (handles_of h))) (written_to buf at (handles_bytes (handles_of h))) 0
+      (written buf at (bytes_of 8 n)) (written_to buf at (bytes_of 8 n))
   unfolding handles_bytes
   put_handles room =
       let p = put_counted (bytes_of 8) (handles_of h) buf at n e room in

@@ -1,15 +1,15 @@
 // sync_key_gen.rs: the messages of distributed key generation, a part and an ack. Rows and values are handles (01, stand-ins).
 #![tactic(auto)]
 
-ghost use Rattle.std.specs.Prelude.{◌≡◌, [], ◌+◌, ◌*◌, ◌≤◌, length};
+ghost use Rattle.std.specs.Prelude.{◌≡◌, ℕ, List, [], ◌+◌, ◌*◌, ◌≤◌, length};
 ghost use Rattle.bincode.specs.Answer.{answer};
 ghost use Rattle.bincode.specs.Sizes.{base};
 ghost use Rattle.bincode.specs.Writing.{written, written_to};
-ghost use Rattle.sync_key_gen.specs.SyncKeyGen.{handles_of, handles_held, headed_held, same_handles, read_handles, read_headed, handles_bytes, part_of, part_held};
-ghost use Rattle.sync_key_gen.specs.SyncKeyGen.{read_part, part_bytes, ack_of, ack_held, read_ack, ack_bytes};
+ghost use Rattle.sync_key_gen.specs.SyncKeyGen.{handles_of, handles_held, headed_held, read_handles, read_headed, handles_bytes, PartOf, part_of, part_held};
+ghost use Rattle.sync_key_gen.specs.SyncKeyGen.{read_part, part_bytes, AckOf, ack_of, ack_held, read_ack, ack_bytes};
 
 use array_list::ArrayList;
-use bincode::{Encoded, Refusal};
+use bincode::{Decoded, Encoded, Refusal};
 
 // Encrypted rows or values, one for each node.
 #[derive(Clone, Copy, PartialEq)]
@@ -47,14 +47,6 @@ impl Handles {
     {
         self.values.len()
     }
-
-    // Whether two have the same handles.
-    #[tactic(auto, using(crate::proofs::KeyGenLaws::handles_eq))]
-    pub fn same(self, other: Handles) -> bool
-        ensures { result ≡ same_handles (handles_of self) (handles_of other) }
-    {
-        self == other
-    }
 }
 
 // A proposer's commitment and an encrypted row for each node.
@@ -71,73 +63,76 @@ pub struct Ack {
     pub values: Handles,
 }
 
-pub fn read_handles(s: &[u8], at: usize) -> Result<(Handles, usize), Refusal>
-    ensures { result ≡ answer handles_held (read_handles base s.now at) }
-{
-    let Ok((n, first)) = bincode::read_u64(s, at) else {
-        return Err(Refusal::Malformed);
-    };
-    if (Handles::LIMIT as u64) < n {
-        return Err(Refusal::TooLarge);
+impl Decoded for Handles {
+    ghost Value = { List ℕ };
+
+    ghost held = { handles_held };
+
+    ghost read_at = { read_handles base };
+
+    #[tactic(auto, unfolding(crate::specs::SyncKeyGen::read_handles, bincode::specs::Items::counted, bincode::specs::Items::read_count))]
+    fn read(s: &[u8], at: usize) -> Result<(Self, usize), Refusal> {
+        let (n, first) = bincode::read_count(s, at, Handles::LIMIT as u64)?;
+        let count = n as usize;
+        let mut values = [0; Handles::LIMIT];
+        let mut c = first;
+        for value in values[..count].iter_mut() {
+            let Ok((x, next)) = bincode::read_u64(s, c) else {
+                return Err(Refusal::Malformed);
+            };
+            *value = x;
+            c = next;
+        }
+        Ok((Handles::new(count, values), c))
     }
-    let count = n as usize;
-    let mut values = [0; Handles::LIMIT];
-    let mut c = first;
-    for value in values[..count].iter_mut() {
-        let Ok((x, next)) = bincode::read_u64(s, c) else {
-            return Err(Refusal::Malformed);
-        };
-        *value = x;
-        c = next;
-    }
-    Ok((Handles::new(count, values), c))
 }
 
 // A number with handles behind it, as a part and an ack both are.
+#[tactic(auto, using(bincode::proofs::NumberLaws::read_refused), unfolding(crate::specs::SyncKeyGen::read_headed))]
 fn read_headed(s: &[u8], at: usize) -> Result<((u64, Handles), usize), Refusal>
     ensures { result ≡ answer headed_held (read_headed base s.now at) }
 {
     let Ok((head, c)) = bincode::read_u64(s, at) else {
         return Err(Refusal::Malformed);
     };
-    let (handles, d) = read_handles(s, c)?;
+    let (handles, d) = Handles::read(s, c)?;
     Ok(((head, handles), d))
 }
 
-pub fn read_part(s: &[u8], at: usize) -> Result<(Part, usize), Refusal>
-    ensures { result ≡ answer part_held (read_part base s.now at) }
-{
-    let ((commit, rows), c) = read_headed(s, at)?;
-    Ok((Part { commit, rows }, c))
+impl Decoded for Part {
+    ghost Value = { PartOf };
+
+    ghost held = { part_held };
+
+    ghost read_at = { read_part base };
+
+    #[tactic(auto, using(bincode::proofs::NumberLaws::read_refused), unfolding(crate::specs::SyncKeyGen::read_headed, crate::specs::SyncKeyGen::read_part))]
+    fn read(s: &[u8], at: usize) -> Result<(Self, usize), Refusal> {
+        let ((commit, rows), c) = read_headed(s, at)?;
+        Ok((Part { commit, rows }, c))
+    }
 }
 
-pub fn read_ack(s: &[u8], at: usize) -> Result<(Ack, usize), Refusal>
-    ensures { result ≡ answer ack_held (read_ack base s.now at) }
-{
-    let ((proposer, values), c) = read_headed(s, at)?;
-    Ok((Ack { proposer, values }, c))
+impl Decoded for Ack {
+    ghost Value = { AckOf };
+
+    ghost held = { ack_held };
+
+    ghost read_at = { read_ack base };
+
+    #[tactic(auto, using(bincode::proofs::NumberLaws::read_refused), unfolding(crate::specs::SyncKeyGen::read_headed, crate::specs::SyncKeyGen::read_ack))]
+    fn read(s: &[u8], at: usize) -> Result<(Self, usize), Refusal> {
+        let ((proposer, values), c) = read_headed(s, at)?;
+        Ok((Ack { proposer, values }, c))
+    }
 }
 
 // How many bytes handles take, behind their count.
+#[tactic(auto, using(crate::proofs::KeyGenLaws::length_handles))]
 pub fn handles_size(h: Handles) -> usize
     ensures { (result ≡ length (handles_bytes (handles_of h))) × (result ≤ 8 + 8 * base.rows) }
 {
     8 + 8 * h.len()
-}
-
-// The position behind the handles, or `at` where they have no room; then nothing is written.
-pub fn write_handles(buf: &mut [u8], at: usize, h: Handles) -> usize
-    ensures { (buf.new ≡ written buf.old at (handles_bytes (handles_of h))) × (result ≡ written_to buf.old at (handles_bytes (handles_of h))) }
-{
-    if bincode::room(buf.len(), at, handles_size(h)) {
-        let mut c = bincode::write_u64(buf, at, h.len() as u64);
-        for x in h.values.as_slice() {
-            c = bincode::write_u64(buf, c, *x);
-        }
-        c
-    } else {
-        at
-    }
 }
 
 impl Encoded for Handles {
@@ -147,25 +142,18 @@ impl Encoded for Handles {
         handles_size(*self)
     }
 
+    #[tactic(auto, unfolding(bincode::specs::Writing::written, bincode::specs::Writing::written_to))]
     fn write(&self, buf: &mut [u8], at: usize) -> usize {
-        write_handles(buf, at, *self)
+        if bincode::room(buf.len(), at, handles_size(*self)) {
+            let mut c = bincode::write_u64(buf, at, self.len() as u64);
+            for x in self.values.as_slice() {
+                c = bincode::write_u64(buf, c, *x);
+            }
+            c
+        } else {
+            at
+        }
     }
-}
-
-// The position behind the part, or `at` where it has no room; then nothing is written.
-#[tactic(auto, unfolding(crate::specs::SyncKeyGen::part_bytes))]
-pub fn write_part(buf: &mut [u8], at: usize, p: Part) -> usize
-    ensures { (buf.new ≡ written buf.old at (part_bytes (part_of p))) × (result ≡ written_to buf.old at (part_bytes (part_of p))) }
-{
-    bincode::write_both(buf, at, p.commit, p.rows)
-}
-
-// The same of an ack.
-#[tactic(auto, unfolding(crate::specs::SyncKeyGen::ack_bytes))]
-pub fn write_ack(buf: &mut [u8], at: usize, a: Ack) -> usize
-    ensures { (buf.new ≡ written buf.old at (ack_bytes (ack_of a))) × (result ≡ written_to buf.old at (ack_bytes (ack_of a))) }
-{
-    bincode::write_both(buf, at, a.proposer, a.values)
 }
 
 impl Encoded for Part {
@@ -176,8 +164,9 @@ impl Encoded for Part {
         8 + handles_size(self.rows)
     }
 
+    #[tactic(auto, unfolding(crate::specs::SyncKeyGen::part_bytes))]
     fn write(&self, buf: &mut [u8], at: usize) -> usize {
-        write_part(buf, at, *self)
+        (self.commit, self.rows).write(buf, at)
     }
 }
 
@@ -189,7 +178,8 @@ impl Encoded for Ack {
         8 + handles_size(self.values)
     }
 
+    #[tactic(auto, unfolding(crate::specs::SyncKeyGen::ack_bytes))]
     fn write(&self, buf: &mut [u8], at: usize) -> usize {
-        write_ack(buf, at, *self)
+        (self.proposer, self.values).write(buf, at)
     }
 }

@@ -64,6 +64,7 @@ pub struct VoteSigned {
 }
 
 // Whether a vote is numbered at or below its voter's stored one.
+#[tactic(auto, using(crate::proofs::PendingTurns::at_or_below_some), unfolding(crate::specs::VoteCounter::obsolete))]
 fn is_obsolete(votes: SignedVotes, x: SignedVote) -> bool
     ensures { result ≡ obsolete (votes_of votes) (signed_of x) }
 {
@@ -71,14 +72,15 @@ fn is_obsolete(votes: SignedVotes, x: SignedVote) -> bool
     votes.num_of(x.voter).is_some_and(|old| num <= old)
 }
 
-// Whether a vote is signed under its voter's key of a map.
-fn is_valid(map: PubKeyMap, x: SignedVote) -> bool
-    ensures { result ≡ is_key x.sig (key_of (nodes_of map) x.voter) }
+// Whether a signature is under the id's key of a map.
+pub fn is_key(map: PubKeyMap, id: u32, sig: u64) -> bool
+    ensures { result ≡ is_key sig (key_of (nodes_of map) id) }
 {
-    network_info::node_key(map, x.voter) == Some(x.sig)
+    network_info::node_key(map, id) == Some(sig)
 }
 
 // A vote of a batch among the committed votes: number, then era, then signature. One exit: so the votes that stay are not copied.
+#[tactic(auto, unfolding(crate::specs::VoteCounter::commit_vote, crate::specs::VoteCounter::vote_effect, crate::specs::VoteCounter::valid_vote))]
 pub fn commit_vote(votes: SignedVotes, era: u64, map: PubKeyMap, x: SignedVote) -> VoteCommitted
     ensures { committed_of result ≡ commit_vote base era (nodes_of map) (votes_of votes) (signed_of x) }
 {
@@ -88,7 +90,7 @@ pub fn commit_vote(votes: SignedVotes, era: u64, map: PubKeyMap, x: SignedVote) 
     let mut outcome = VoteOutcome::Faulty(FaultKind::InvalidCommittedVote);
     if is_obsolete(votes, x) {
         outcome = VoteOutcome::Nothing;
-    } else if vote.era == era && is_valid(map, x) {
+    } else if vote.era == era && is_key(map, x.voter, x.sig) {
         taken = votes.takes(x.voter);
         next = votes.put(x);
         outcome = VoteOutcome::Stored;
@@ -115,7 +117,15 @@ impl VoteCounter {
         }
     }
 
-    // A vote that was received. The counter is put together at one exit: so the votes that stay are not copied.
+    // An era begins: the same node, with a map, without votes.
+    pub fn new_era(&self, pub_keys: PubKeyMap, era: u64) -> Self
+        ensures { result ≡ new_held self.now.our_id self.now.secret_key pub_keys era }
+    {
+        VoteCounter::new(self.our_id, self.secret_key, pub_keys, era)
+    }
+
+    // A vote that was received.
+    #[tactic(auto, unfolding(crate::specs::VoteCounter::add_pending, crate::specs::VoteCounter::pending_effect, crate::specs::VoteCounter::valid_vote))]
     pub fn add_pending_vote(mut self, x: SignedVote) -> VoteAdded
         ensures { added_of result ≡ add_pending base (counter_of self) (signed_of x) }
     {
@@ -124,26 +134,15 @@ impl VoteCounter {
         let old = self.pending;
         let mut outcome = VoteOutcome::Nothing;
         if vote.era == self.era && !is_obsolete(old, x) {
-            if is_valid(map, x) {
+            if is_key(map, x.voter, x.sig) {
                 self.pending = old.put(x);
                 outcome = VoteOutcome::Stored;
             } else {
                 outcome = VoteOutcome::Faulty(FaultKind::InvalidVoteSignature);
             }
         }
-        let pending = self.pending;
-        let committed = self.committed;
-        let board = self.board;
         VoteAdded {
-            counter: VoteCounter {
-                our_id: self.our_id,
-                secret_key: self.secret_key,
-                pub_keys: map,
-                era: self.era,
-                pending,
-                committed,
-                board,
-            },
+            counter: self,
             outcome,
         }
     }
@@ -160,6 +159,7 @@ impl VoteCounter {
     }
 
     // A vote of a batch: number, then era, then signature.
+    #[tactic(auto, unfolding(crate::specs::VoteCounter::add_committed, crate::specs::VoteCounter::commit_vote))]
     pub fn add_committed_vote(mut self, x: SignedVote) -> VoteAdded
         ensures { added_of result ≡ add_committed base (counter_of self) (signed_of x) }
     {
@@ -197,6 +197,7 @@ impl VoteCounter {
     }
 
     // An own vote; row 11 where the own pending vote's number is the last.
+    #[tactic(auto, unfolding(crate::specs::VoteCounter::sign_vote_for))]
     pub fn sign_vote_for(mut self, change: Change) -> VoteSigned
         ensures { (signed_answer result ≡ sign_vote_for base (counter_of self) (change_of change)) × SignRefusedKeeps result self }
     {
@@ -226,6 +227,7 @@ impl VoteCounter {
     }
 
     // The row of the board at a place, 0 first, as the counter holds it.
+    #[tactic(auto, unfolding(crate::specs::VoteCounter::board_row))]
     pub fn board_row(self, place: usize) -> Option<Standing>
         ensures { option_as_found said_standing result ≡ board_row (counter_of self) place }
     {

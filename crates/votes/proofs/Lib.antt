@@ -1,4 +1,3 @@
 pub mod VoteLaws
 pub mod VoteCodes
 pub mod VoteCauses
-pub mod HeadLaws

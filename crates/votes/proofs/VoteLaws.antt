@@ -1,18 +1,20 @@
 -- Laws of votes: what a struct holds, and the length in bytes.
 -- Assumes nothing.
 use Prim.Native.Nat.{◌+◌}
-use mathlib.Core.Path.{◌≡◌, ap}
+use mathlib.Core.Path.{◌≡◌}
 use native.Mathlib.Omega.{arith}
 use lib.ListN.{length, length-append}
 use Rattle.bincode.specs.Numbers.{fixed}
 use Rattle.bincode.proofs.NumberLaws.{length_bytes_of}
-use Rattle.change.specs.Change.{ChangeOf, change_bytes}
+use Rattle.change.specs.Change.{change_bytes}
 use Rattle.change.proofs.ChangeLaws.{held_change}
 use Rattle.votes.specs.Votes.{VoteOf, SignedVoteOf, signed_of, signed_held, vote_bytes, signed_bytes}
 
 -- a struct that holds what was read stands for it
 pub held_vote : (v : SignedVoteOf) → signed_of (signed_held v) ≡ v
-held_vote v = ap {B = SignedVoteOf} (λ (c : ChangeOf). record { vote = record { change = c; era = v.vote.era; num = v.vote.num }; voter = v.voter; sig = v.sig }) (held_change v.vote.change)
+held_vote v =
+    let change = held_change v.vote.change in
+    λ i. record { vote = record { change = change i; era = v.vote.era; num = v.vote.num }; voter = v.voter; sig = v.sig }
 
 pub length_vote : (v : VoteOf) → length (vote_bytes v) ≡ length (change_bytes fixed v.change) + (8 + 8)
 unfolding vote_bytes

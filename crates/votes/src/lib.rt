@@ -4,13 +4,13 @@
 ghost use Rattle.std.specs.Prelude.{◌≡◌, ◌+◌, ◌*◌, ◌≤◌, length};
 ghost use Rattle.bincode.specs.Answer.{answer};
 ghost use Rattle.bincode.specs.Sizes.{base};
-ghost use Rattle.bincode.specs.Writing.{written, written_to};
 ghost use Rattle.change.specs.Change.{change_of, same_change};
 ghost use Rattle.votes.specs.VoteHead.{head_of};
-ghost use Rattle.votes.specs.Votes.{vote_of, vote_held, no_vote, read_vote, vote_bytes, signed_of, signed_held, no_signed, read_signed_vote, signed_bytes, voter_in};
+ghost use Rattle.votes.specs.Votes.{VoteOf, vote_of, vote_held, no_vote, read_vote, vote_bytes, SignedVoteOf, signed_of, signed_held, no_signed};
+ghost use Rattle.votes.specs.Votes.{read_signed_vote, signed_bytes, voter_in};
 
 use array_list::Keyed;
-use bincode::{Encoded, Refusal};
+use bincode::{Decoded, Encoded, Refusal};
 use change::Change;
 use pub_key_map::PubKeyMap;
 
@@ -54,10 +54,11 @@ impl SignedVote {
     }
 
     // Whether a vote is for a change.
+    #[tactic(auto, using(change::proofs::ChangeLaws::change_eq))]
     pub fn is_for(self, change: Change) -> bool
         ensures { result ≡ same_change (signed_of self).vote.change (change_of change) }
     {
-        self.vote.change.same(change)
+        self.vote.change == change
     }
 }
 
@@ -70,30 +71,44 @@ impl Keyed for SignedVote {
     }
 }
 
-pub fn read_vote(s: &[u8], at: usize) -> Result<(Vote, usize), Refusal>
-    ensures { result ≡ answer vote_held (read_vote base s.now at) }
-{
-    let (change, a) = change::read_change(s, at)?;
-    let Ok((era, b)) = bincode::read_u64(s, a) else {
-        return Err(Refusal::Malformed);
-    };
-    let Ok((num, c)) = bincode::read_u64(s, b) else {
-        return Err(Refusal::Malformed);
-    };
-    Ok((Vote { change, era, num }, c))
+impl Decoded for Vote {
+    ghost Value = { VoteOf };
+
+    ghost held = { vote_held };
+
+    ghost read_at = { read_vote base };
+
+    #[tactic(auto, using(bincode::proofs::NumberLaws::read_refused), unfolding(crate::specs::Votes::read_vote))]
+    fn read(s: &[u8], at: usize) -> Result<(Self, usize), Refusal> {
+        let (change, a) = Change::read(s, at)?;
+        let Ok((era, b)) = bincode::read_u64(s, a) else {
+            return Err(Refusal::Malformed);
+        };
+        let Ok((num, c)) = bincode::read_u64(s, b) else {
+            return Err(Refusal::Malformed);
+        };
+        Ok((Vote { change, era, num }, c))
+    }
 }
 
-pub fn read_signed_vote(s: &[u8], at: usize) -> Result<(SignedVote, usize), Refusal>
-    ensures { result ≡ answer signed_held (read_signed_vote base s.now at) }
-{
-    let (vote, a) = read_vote(s, at)?;
-    let Ok((voter, b)) = bincode::read_u32(s, a) else {
-        return Err(Refusal::Malformed);
-    };
-    let Ok((sig, c)) = bincode::read_u64(s, b) else {
-        return Err(Refusal::Malformed);
-    };
-    Ok((SignedVote { vote, voter, sig }, c))
+impl Decoded for SignedVote {
+    ghost Value = { SignedVoteOf };
+
+    ghost held = { signed_held };
+
+    ghost read_at = { read_signed_vote base };
+
+    #[tactic(auto, using(bincode::proofs::NumberLaws::read_refused), unfolding(crate::specs::Votes::read_signed_vote))]
+    fn read(s: &[u8], at: usize) -> Result<(Self, usize), Refusal> {
+        let (vote, a) = Vote::read(s, at)?;
+        let Ok((voter, b)) = bincode::read_u32(s, a) else {
+            return Err(Refusal::Malformed);
+        };
+        let Ok((sig, c)) = bincode::read_u64(s, b) else {
+            return Err(Refusal::Malformed);
+        };
+        Ok((SignedVote { vote, voter, sig }, c))
+    }
 }
 
 // A signed vote without its change.
@@ -106,6 +121,7 @@ pub struct VoteHead {
 }
 
 // The change is tested and not kept, so that no map is copied where the numbers alone are asked for.
+#[tactic(auto, using(bincode::proofs::NumberLaws::read_refused), unfolding(crate::specs::Votes::read_signed_vote, crate::specs::Votes::read_vote))]
 pub fn read_vote_head(s: &[u8], at: usize) -> Result<(VoteHead, usize), Refusal>
     ensures { result ≡ answer head_of (read_signed_vote base s.now at) }
 {
@@ -139,19 +155,7 @@ pub fn vote_size(v: Vote) -> usize
     change::change_size(v.change) + 16
 }
 
-// The position behind the vote, or `at` where it has no room; then nothing is written.
-pub fn write_vote(buf: &mut [u8], at: usize, v: Vote) -> usize
-    ensures { (buf.new ≡ written buf.old at (vote_bytes (vote_of v))) × (result ≡ written_to buf.old at (vote_bytes (vote_of v))) }
-{
-    if bincode::room(buf.len(), at, vote_size(v)) {
-        let b = change::write_change(buf, at, v.change);
-        let c = bincode::write_u64(buf, b, v.era);
-        bincode::write_u64(buf, c, v.num)
-    } else {
-        at
-    }
-}
-
+// How many bytes a signed vote takes.
 #[tactic(auto, using(crate::proofs::VoteLaws::length_signed))]
 pub fn signed_vote_size(x: SignedVote) -> usize
     ensures { (result ≡ length (signed_bytes (signed_of x))) × (result ≤ 40 + 12 * base.nodes) }
@@ -159,15 +163,16 @@ pub fn signed_vote_size(x: SignedVote) -> usize
     vote_size(x.vote) + 12
 }
 
-pub fn write_signed_vote(buf: &mut [u8], at: usize, x: SignedVote) -> usize
-    ensures { (buf.new ≡ written buf.old at (signed_bytes (signed_of x))) × (result ≡ written_to buf.old at (signed_bytes (signed_of x))) }
-{
-    if bincode::room(buf.len(), at, signed_vote_size(x)) {
-        let b = write_vote(buf, at, x.vote);
-        let c = bincode::write_u32(buf, b, x.voter);
-        bincode::write_u64(buf, c, x.sig)
-    } else {
-        at
+impl Encoded for Vote {
+    ghost bytes = { λ v. vote_bytes (vote_of v) };
+
+    fn size(&self) -> usize {
+        vote_size(*self)
+    }
+
+    #[tactic(auto, unfolding(crate::specs::Votes::vote_bytes))]
+    fn write(&self, buf: &mut [u8], at: usize) -> usize {
+        (self.change, self.era, self.num).write(buf, at)
     }
 }
 
@@ -178,7 +183,8 @@ impl Encoded for SignedVote {
         signed_vote_size(*self)
     }
 
+    #[tactic(auto, unfolding(crate::specs::Votes::signed_bytes))]
     fn write(&self, buf: &mut [u8], at: usize) -> usize {
-        write_signed_vote(buf, at, *self)
+        (self.vote, self.voter, self.sig).write(buf, at)
     }
 }

@@ -8,7 +8,7 @@ pub returns : goal.returns
 returns c =
     let a = c.args in
     λ st l. same_decision
-    (era_begun a.era a.counter c.new.result a.ended.key_gen.pub_keys a.params nothing st l c.new.ensures)
+    (era_begun a.era a.parts.now.vote_counter c.new_era-parts.result a.ended.key_gen.pub_keys a.parts.now.params nothing st l c.new_era-parts.ensures)
     (c.complete.ensures ∙ ap complete c.node_change.ensures)
     refl
     (ap found c.generate.ensures)

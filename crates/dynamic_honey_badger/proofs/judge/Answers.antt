@@ -17,7 +17,7 @@ pub returns-in-Ok : goal.returns-in-Ok
 returns-in-Ok c =
     let a = c.args in
     let b = a.bytes.now in
-    let x = answer_ok content_held (whole (read_message base b) b) _ _ (sym c.read_whole_message.ensures ∙ c.in-Ok.is) in
+    let x = answer_ok content_held (whole (read_message base b) b) _ _ (sym c.read_whole.ensures ∙ c.in-Ok.is) in
     λ s e p. subst (λ (h : HandledOf). JudgedAs base s h c.judge_content.result) (sym (message_read base s a.sender b x.0 _ c.in-Ok.m x.1 x.2)) (c.judge_content.ensures s e p)
 
 pub returns-in-Err : goal.returns-in-Err
@@ -25,5 +25,5 @@ returns-in-Err c =
     let a = c.args in
     let b = a.bytes.now in
     let causes = whole_causes (content_codes b base (lit< tt) (lit< tt)) (content_causes b base (lit< tt) (lit< tt)) in
-    let r = refused_by b (whole (read_message base b) b) causes (λ i. (c.type_inv.bytes i).fits) content_held _ c.read_whole_message.ensures _ c.in-Err.is in
+    let r = refused_by b (whole (read_message base b) b) causes (λ i. (c.type_inv.bytes i).fits) content_held _ c.read_whole.ensures _ c.in-Err.is in
     λ s e p. message_refused base s a.sender b _ r

@@ -20,17 +20,14 @@ returns-in_default c =
 pub returns-then-len-c : goal.returns-then-len-c
 returns-then-len-c c =
     let a = c.args in
-    let k = c.count_messages-c in
-    λ s p. judged_many base s _ _ a.known.held p (signed_of a.m) (sym c.verify_signature.ensures ∙ c.if-not-verify_signature.false) (running_of c.in-Some.state) (ap running.state_of c.in-Some.is) (counted_of k.result) k.ensures _ refl (omega (arith, c.if-len-c.true, c.len.ensures.0))
+    λ s p. judged_many base s _ _ a.known.held p (signed_of a.m) (sym c.verify_signature.ensures ∙ c.if-not-verify_signature.false) (running_of c.in-Some.state) (ap running.state_of c.in-Some.is) (counted_of c.count_messages-c.result) c.count_messages-c.ensures _ refl (omega (arith, c.if-len-c.true, c.len.ensures.0))
 
 pub returns-then-known-lt-LIMIT : goal.returns-then-known-lt-LIMIT
 returns-then-known-lt-LIMIT c =
     let a = c.args in
-    let k = c.count_messages-c in
-    λ s p. (judged_room base s _ _ a.known.held p (signed_of a.m) c.if-known-lt-LIMIT.true, judged_stored base s _ _ a.known.held p (signed_of a.m) (sym c.verify_signature.ensures ∙ c.if-not-verify_signature.false) (running_of c.in-Some.state) (ap running.state_of c.in-Some.is) (counted_of k.result) k.ensures (omega (arith, c.if-len-c.false, c.len.ensures.0)) _ refl)
+    λ s p. (judged_room base s _ _ a.known.held p (signed_of a.m) c.if-known-lt-LIMIT.true, judged_stored base s _ _ a.known.held p (signed_of a.m) (sym c.verify_signature.ensures ∙ c.if-not-verify_signature.false) (running_of c.in-Some.state) (ap running.state_of c.in-Some.is) (counted_of c.count_messages-c.result) c.count_messages-c.ensures (omega (arith, c.if-len-c.false, c.len.ensures.0)) _ refl)
 
 pub returns : goal.returns
 returns c =
     let a = c.args in
-    let k = c.count_messages-c in
-    λ s p. judged_full base s _ _ a.known.held p (signed_of a.m) (sym c.verify_signature.ensures ∙ c.if-not-verify_signature.false) (running_of c.in-Some.state) (ap running.state_of c.in-Some.is) (counted_of k.result) k.ensures (omega (arith, c.if-len-c.false, c.len.ensures.0)) c.if-known-lt-LIMIT.false
+    λ s p. judged_full base s _ _ a.known.held p (signed_of a.m) (sym c.verify_signature.ensures ∙ c.if-not-verify_signature.false) (running_of c.in-Some.state) (ap running.state_of c.in-Some.is) (counted_of c.count_messages-c.result) c.count_messages-c.ensures (omega (arith, c.if-len-c.false, c.len.ensures.0)) c.if-known-lt-LIMIT.false

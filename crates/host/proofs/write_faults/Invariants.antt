@@ -1,6 +1,5 @@
 use mathlib.Core.Path.{◌≡◌}
 use lib.ListN.{length}
-use Rattle.host.specs.Records.{pairs}
 use Rattle.host.proofs.RecordLaws.{filled_to}
 use Rattle.host.proofs.write_faults.Given as goal
 

@@ -7,7 +7,9 @@ pub loop-init : goal.loop-init
 loop-init g c = pass_start _ _ _
 
 pub returns-in_err-c : goal.returns-in_err-c
-returns-in_err-c g c = passed_on _ _ c.from_residual.ensures.1 ∙ pass_refused (g.T.Item.read_at _) _ _ _ _ c.loop.invariant c.loop-test.true _ c.pass.ensures _ c.in_err-c.was
+returns-in_err-c g c =
+    passed_on _ _ c.from_residual.ensures.1
+    ∙ pass_refused (g.T.Item.read_at _) _ _ _ _ c.loop.invariant c.loop-test.true _ c.pass.ensures _ c.in_err-c.was
 
 pub loop-preserved : goal.loop-preserved
 loop-preserved g c = pass_more (g.T.Item.read_at _) _ _ _ _ c.loop.invariant c.loop-test.true _ c.pass.ensures _ c.in_ok-c.was

@@ -1,35 +1,23 @@
-use mathlib.Core.Path.{◌≡◌, sym, ap, ◌∙◌}
+use mathlib.Core.Path.{sym, ap, ◌∙◌}
 use mathlib.Core.List.{[], ◌∷◌, ◌++◌}
-use native.Mathlib.Omega.{arith}
-use Rattle.bincode.specs.Read.{value}
-use Rattle.bincode.specs.Numbers.{fixed, read_num}
+use Rattle.bincode.specs.Numbers.{fixed}
 use Rattle.bincode.specs.Answer.{step_of}
-use Rattle.bincode.proofs.ItemLaws.{counted_cut, counted_over, counted_start, items_turn, items_end, items_refused}
+use Rattle.bincode.proofs.ItemLaws.{count_read, counted_start, items_turn, items_end, items_refused}
 use Rattle.bincode.proofs.ReadLaws.{answer_ok}
 use Rattle.bincode.proofs.AnswerLaws.{answer_exit}
 use Rattle.pub_key_map.specs.declared.Node.{Node}
 use Rattle.pub_key_map.specs.PubKeyMap.{read_node, read_map, following}
 use Rattle.pub_key_map.proofs.check_map.Goals as goal
 
-pub returns-in_default : goal.returns-in_default
-unfolding read_map
-returns-in_default c = ap step_of (sym (counted_cut (read_node fixed _) following _ _ _ _ _ (sym c.in_default.ensures)))
-
-pub returns-then-count : goal.returns-then-count
-unfolding read_map
-returns-then-count c =
-    let count_read : read_num 8 c.args.s.now c.args.at ≡ value c.in-Ok.count c.in-Ok.first = sym c.in-Ok.ensures in
-    ap step_of (sym (counted_over (read_node fixed _) following _ _ _ _ _ _ count_read (omega arith)))
-
 pub loop-init : goal.loop-init
 unfolding read_map
 loop-init c =
-    let count_read : read_num 8 c.args.s.now c.args.at ≡ value c.in-Ok.count c.in-Ok.first = sym c.in-Ok.ensures in
-    ([], counted_start (read_node fixed _) following _ _ _ _ _ _ count_read (omega arith))
+    let r = count_read _ _ _ c.read_count.ensures c.in_ok-count.was in
+    ([], counted_start (read_node fixed _) following _ _ _ _ _ _ r.0 r.1)
 
 pub returns-in_err-node : goal.returns-in_err-node
 returns-in_err-node c =
-    let p = answer_exit (λ (x : Node). x) _ _ (sym c.read_node.ensures ∙ c.in_err-node.was) _ c.from_residual.ensures.1 in
+    let p = answer_exit (λ (x : Node). x) _ _ (sym c.read_node.ensures ∙ c.in_err-node.was) _ c.from_residual-in_err-node.ensures.1 in
     p.2 ∙ ap step_of (sym (c.loop.invariant.1 ∙ items_refused _ _ _ _ _ _ _ _ c.loop-test.true p.1))
 
 pub loop-preserved : goal.loop-preserved

@@ -1,10 +1,7 @@
-use Prim.Native.Nat.{◌+◌, ◌-◌, ◌≤◌}
-use mathlib.Core.Bool.{false}
-use lib.ListN.{drop}
-use Rattle.bincode.specs.Sizes.{base}
+use Prim.Native.Nat.{◌+◌}
 use Rattle.recipe.specs.Places.{first_marks}
-use Rattle.recipe.proofs.FillLaws.{Filled}
+use Rattle.recipe.proofs.RecipeLaws.{Marking}
 use Rattle.recipe.proofs.first.Given as goal
 
-abbrev pub invariant-loop-i : goal.invariant-loop-i
-invariant-loop-i l = Filled base.nodes false l.out l.i (first_marks (l.t + 1 - l.taken) (drop l.i l.good)) (first_marks (l.t + 1) l.good) × (l.taken ≤ l.i)
+abbrev pub invariant-loop-flag : goal.invariant-loop-flag
+invariant-loop-flag l = Marking (first_marks (l.t + 1) l.fn.good) l.t l.taken l.flag-index l.flag-items

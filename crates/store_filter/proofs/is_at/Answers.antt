@@ -1,33 +1,24 @@
 use mathlib.Core.Path.{sym, ap, ◌∙◌}
-use Rattle.bincode.specs.Sizes.{base}
-use Rattle.bincode.proofs.ReadLaws.{answer_ok, answer_err}
-use Rattle.key_gen_message.specs.KeyGenMessage.{read_signed_key_gen_msg, same_signed, signed_of, signed_held}
-use Rattle.key_gen_message.proofs.MessageLaws.{held_signed}
-use Rattle.store_filter.specs.Filter.{is_read}
-use Rattle.store_filter.proofs.FilterLaws.{first_in, at_other_id, at_other_first, at_place}
+use Prim.Native.Nat.{ℕ}
+use lib.Dec.{eqb}
+use borrow.Author.Tests.{eqb-true}
+use Rattle.store_filter.proofs.FilterLaws.{at_other_id, at_other_first, at_place}
 use Rattle.store_filter.proofs.is_at.Goals as goal
-use Rattle.store_filter.proofs.is_at.Goals.{then-x-p-via-then-x-p, then-x-p-via-else-x-p+then-number_in-p}
+use Rattle.store_filter.proofs.is_at.Goals.{then-x-p, else-x-p}
 
-pub returns-then-x-p : goal.returns-then-x-p
-returns-then-x-p c =
+pub returns-then-number_in-p : goal.returns-then-number_in-p
+returns-then-number_in-p c =
     let a = c.args in
-    let x = signed_of a.x.now in
-    elim c.then-x-p.branch [
-      | then-x-p-via-then-x-p w ↦ at_other_id a.s.now x a.p.now w.if-x-p.true
-      | then-x-p-via-else-x-p+then-number_in-p w ↦ at_other_first a.s.now x a.p.now w.if-x-p.false (λ d. w.if-number_in-p.true (w.number_in.ensures ∙ sym (first_in a.x.now.message) ∙ d))
+    elim c.if-x-p.branch [
+      | then-x-p w ↦ c.is_read_at.ensures ∙ at_place a.s.now a.x.now a.p.now w.if-x-p.true (ap (λ (n : ℕ). eqb n a.p.now.first) (sym w.number_in.ensures) ∙ sym w.value-is ∙ c.if-number_in-p.true)
+      | else-x-p w ↦ absurd (w.if-x-p.false (eqb-true _ _ (sym w.value-is ∙ c.if-number_in-p.true)))
     ]
 
-pub returns-in-Ok : goal.returns-in-Ok
-returns-in-Ok c =
+pub returns-else-number_in-p : goal.returns-else-number_in-p
+returns-else-number_in-p c =
     let a = c.args in
-    let x = signed_of a.x.now in
-    let u = answer_ok signed_held (read_signed_key_gen_msg base a.s.now a.p.now.at) c.in-Ok.m _ (sym c.read_signed.ensures ∙ c.in-Ok.is) in
-    c.same.ensures ∙ ap (same_signed x) (ap signed_of u.2 ∙ held_signed u.0)
-    ∙ sym (at_place a.s.now x a.p.now c.if-x-p.false (first_in a.x.now.message ∙ sym c.number_in.ensures ∙ c.if-number_in-p.false) ∙ ap (is_read x) u.1)
-
-pub returns-in-Err : goal.returns-in-Err
-returns-in-Err c =
-    let a = c.args in
-    let x = signed_of a.x.now in
-    let u = answer_err signed_held (read_signed_key_gen_msg base a.s.now a.p.now.at) _ (sym c.read_signed.ensures ∙ c.in-Err.is) in
-    sym (at_place a.s.now x a.p.now c.if-x-p.false (first_in a.x.now.message ∙ sym c.number_in.ensures ∙ c.if-number_in-p.false) ∙ ap (is_read x) u.1)
+    c.if-number_in-p.false
+    ∙ elim c.if-x-p.branch [
+      | then-x-p w ↦ at_other_first a.s.now a.x.now a.p.now w.if-x-p.true (ap (λ (n : ℕ). eqb n a.p.now.first) (sym w.number_in.ensures) ∙ sym w.value-is ∙ c.if-number_in-p.false)
+      | else-x-p w ↦ at_other_id a.s.now a.x.now a.p.now w.if-x-p.false
+    ]

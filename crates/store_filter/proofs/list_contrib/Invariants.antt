@@ -10,4 +10,4 @@ abbrev pub invariant-loop : goal.invariant-loop
 invariant-loop l =
     (es : List Entry) → Listed l.s es (items_in l.initial.places)
     → (fs : List Entry) × Listed l.s fs (items_in l.places)
-    × (foldl listed fs (entries_from l.s (l.e.message_count - l.counter) l.c) ≡ foldl listed es (entries_from l.s l.e.message_count (l.e.messages + 8)))
+    × (foldl listed fs (entries_from l.s (l.e.messages.count - l.counter) l.c) ≡ foldl listed es (entries_from l.s l.e.messages.count (l.e.messages.at + 8)))

@@ -19,9 +19,12 @@ use Rattle.board.proofs.Board.of.Goals.{then-not-seen-i, else-not-seen-i}
 
 pub loop-i-init : goal.loop-i-init
 loop-i-init c =
-    let vs = votes_of c.args.votes in
-    let e = ap rows_of c.empty-board.ensures in
-    (omega (arith, ap length e), refl, marked_start vs base.nodes, none_in vs ∙ ap (λ (rs : List BoardRow). in_order count_in voter_in rs (to_come vs 0)) (sym e))
+    let e = ap rows_of c.empty-board.ensures in (
+      omega (arith, ap length e),
+      refl,
+      marked_start _ base.nodes,
+      none_in _ ∙ ap (λ (rs : List BoardRow). in_order count_in voter_in rs (to_come (votes_of c.args.votes) 0)) (sym e),
+    )
 
 pub put-board-requires : goal.put-board-requires
 put-board-requires c =

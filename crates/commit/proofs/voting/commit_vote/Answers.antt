@@ -1,18 +1,17 @@
 use mathlib.Core.Path.{sym, ◌∙◌}
-use Rattle.pub_key_map.specs.PubKeyMap.{nodes_of}
-use Rattle.commit.proofs.VoteLaws.{held_good, held_bad}
+use Rattle.commit.proofs.VoteLaws.{old_vote, bad_vote, good_vote}
 use Rattle.commit.proofs.voting.commit_vote.Goals as goal
 
-pub returns-then-is_good-clause-committed : goal.returns-then-is_good-clause-committed
-returns-then-is_good-clause-committed c =
-    let a = c.args in
-    let t = a.terms.now in
-    let g = sym c.is_good.ensures ∙ c.if-is_good.true in
-    λ s v d r e w start ids₀ kinds₀ h. held_good s t.era (nodes_of t.map) start ids₀ kinds₀ w _ h v a.h e a.proposer c.requires.1 g a.place d r (record { entries = c.insert.new.self }) c.insert.ensures
+pub returns-then-is_obsolete : goal.returns-then-is_obsolete
+returns-then-is_obsolete c = old_vote c.args.terms.now c.args.place c.args.h c.args.tally.now (sym c.is_obsolete.ensures ∙ c.if-is_obsolete.true)
 
-pub returns-else-is_good-clause-committed : goal.returns-else-is_good-clause-committed
-returns-else-is_good-clause-committed c =
+pub returns-then-not-is_good : goal.returns-then-not-is_good
+returns-then-not-is_good c =
     let a = c.args in
-    let t = a.terms.now in
-    let g = sym c.is_good.ensures ∙ c.if-is_good.false in
-    λ s v d r e w start ids₀ kinds₀ h. held_bad s t.era (nodes_of t.map) start ids₀ kinds₀ w _ h v a.h e a.proposer c.requires.1 g _ _ _ c.put.ensures.put
+    bad_vote a.terms.now a.place a.h a.tally.now (sym c.is_obsolete.ensures ∙ c.if-is_obsolete.false) (sym c.is_good.ensures ∙ c.if-not-is_good.true)
+
+pub returns : goal.returns
+returns c =
+    let a = c.args in
+    good_vote a.terms.now a.place a.h a.tally.now (sym c.is_obsolete.ensures ∙ c.if-is_obsolete.false) (sym c.is_good.ensures ∙ c.if-not-is_good.false)
+    (record { entries = c.insert.new.self }) c.insert.ensures

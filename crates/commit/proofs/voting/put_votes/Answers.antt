@@ -16,7 +16,7 @@ use Rattle.commit.specs.Put.{put_in}
 use Rattle.commit.proofs.StayedLaws.{put_none}
 use Rattle.commit.proofs.TurnLaws.{fold_more, fold_end, put_unread, put_read_lem}
 use Rattle.commit.proofs.voting.put_votes.Goals as goal
-use Rattle.commit.proofs.voting.put_votes.Goals.{in-Some+in-Ok, in-Some+in_default-read_signed_vote, in_default}
+use Rattle.commit.proofs.voting.put_votes.Goals.{in-Some+in-Ok, in-Some+in_default-read, in_default}
 
 pub loop-e-init : goal.loop-e-init
 loop-e-init c = ap (foldl (put_in base c.args.s.now) (counter_of c.args.counter)) (sym c.as_slice-e-items.ensures)
@@ -32,9 +32,9 @@ loop-e-preserved c =
     l.invariant ∙ more _ (elim c.match-e.branch [
       | in-Some+in-Ok k ↦ (λ j. after base d (votes_of (k.votes-is j)) (k.taken-is j)) ∙ ap (λ (q : CommittedOf). after base d q.votes (l.taken || q.taken)) k.commit_vote-a.ensures
           ∙ sym (next_vote base d (votes_of l.votes) l.taken _)
-          ∙ put_read_lem _ at _ k.in-Some.place k.in-Some.is k.in-Ok.x _ (sym k.read_signed_vote.ensures ∙ k.in-Ok.is)
-      | in-Some+in_default-read_signed_vote k ↦ (λ j. after base d (votes_of (k.votes-is j)) (k.taken-is j))
-          ∙ put_unread _ at _ k.in-Some.place k.in-Some.is _ (sym k.read_signed_vote.ensures ∙ k.in_default-read_signed_vote.is)
+          ∙ put_read_lem _ at _ k.in-Some.place k.in-Some.is k.in-Ok.x _ (sym k.read.ensures ∙ k.in-Ok.is)
+      | in-Some+in_default-read k ↦ (λ j. after base d (votes_of (k.votes-is j)) (k.taken-is j))
+          ∙ put_unread _ at _ k.in-Some.place k.in-Some.is _ (sym k.read.ensures ∙ k.in_default-read.is)
       | in_default k ↦ (λ j. after base d (votes_of (k.votes-is j)) (k.taken-is j)) ∙ sym (put_none base _ at _ k.in_default.is)
     ])
 

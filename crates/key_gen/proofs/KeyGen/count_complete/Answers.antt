@@ -13,10 +13,10 @@ pub returns : goal.returns
 unfolding count_complete complete
 returns c =
     let ps = c.args.self.proposals in
-    let t = c.threshold-t.result in
+    let t = c.num_faulty-t.result in
     let e : c.count.result ≡ count_by (complete_in t) ps = search rules in
     let l : length ps ≡ base.nodes = search rules in
     let f = present_counted proposal_at (complete t) (complete_in t) refl (λ i p. refl) ps 0 0 in
     let m = present_within proposal_at (complete t) (complete_in t) refl (λ i p. refl) ps 0 in
     let counted : c.count.result ≡ length (filter (complete t) (parts_of ps)) = omega (arith, e, f) in
-    (rw c.threshold-t.ensures.0 at counted, omega (arith, e, f, m, l))
+    (rw c.num_faulty-t.ensures at counted, omega (arith, e, f, m, l))

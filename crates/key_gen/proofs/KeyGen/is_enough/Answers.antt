@@ -3,4 +3,4 @@ use Rattle.key_gen.proofs.KeyGen.is_enough.Goals as goal
 
 pub returns : goal.returns
 unfolding enough
-returns c = rw (c.threshold.ensures.0, c.count_complete.ensures.0)
+returns c = rw (c.num_faulty.ensures, c.count_complete.ensures.0)

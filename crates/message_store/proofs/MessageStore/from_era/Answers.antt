@@ -9,4 +9,5 @@ use Rattle.message_store.proofs.MessageStore.from_era.Goals as goal
 pub returns : goal.returns
 unfolding from_era
 returns c =
-    ap (map signed_of) (c.retain.ensures (λ x. is_recent c.args.era (signed_of x)) (λ x r says. search rules)) ∙ map_filter signed_of (is_recent c.args.era) (held c.args.self)
+    ap (map signed_of) (c.retain.ensures (λ x. is_recent c.args.era (signed_of x)) (λ x r says. search rules))
+    ∙ map_filter signed_of (is_recent c.args.era) (held c.args.self)

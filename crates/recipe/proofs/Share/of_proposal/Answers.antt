@@ -1,10 +1,6 @@
-use Rattle.recipe.specs.Places.{share_for}
+use Rattle.std.proofs.Common.{rules}
+use Rattle.recipe.proofs.RecipeLaws.{given_held}
 use Rattle.recipe.proofs.Share.of_proposal.Goals as goal
 
-pub returns-in-Some : goal.returns-in-Some
-unfolding share_for
-returns-in-Some c = rw (c.in-Some.is, ← c.if-is_complete.ensures 0, c.first.ensures)
-
-pub returns-in_default : goal.returns-in_default
-unfolding share_for
-returns-in_default c = rw (c.in-Some.is, ← c.if-is_complete.ensures 0)
+pub returns : goal.returns
+returns c = given_held _ _ _ (λ e. search rules) (λ p e f. search rules) (λ p e f. search rules)

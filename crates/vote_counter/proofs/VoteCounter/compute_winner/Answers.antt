@@ -84,34 +84,31 @@ loop-other-init c = (refl, omega arith, omega arith, refl)
 
 pub overflow_add-count : goal.overflow_add-count
 overflow_add-count c =
-    let xs = c.as_slice-committed.result.now in
     let h : c.loop-other.count + 1 < 18446744073709551616
-    = omega (arith, c.loop-other.invariant.2, c.loop-other-test.true, length-take (c.voters.i + 1) xs, c.as_slice-committed.type_inv.0) in
+    = omega (arith, c.loop-other.invariant.2, c.loop-other-test.true, length-take {A = SignedVote}, c.as_slice-committed.type_inv.0) in
     search rules
 
 pub loop-other-preserved : goal.loop-other-preserved
 loop-other-preserved c =
-    let xs = c.as_slice-committed.result.now in
     let v = c.loop-other.invariant in
     let e = sym c.is_for.ensures in
     elim c.if-is_for.branch [
       | then-is_for+else-f-count w ↦
-          let m = one_more xs c.voters.i c.voters-test.true _ c.loop-other.other-index _ c.loop-other-test.true v.0 _ (e ∙ w.if-is_for.true) in
+          let m = one_more _ c.voters.i c.voters-test.true _ c.loop-other.other-index _ c.loop-other-test.true v.0 _ (e ∙ w.if-is_for.true) in
           (w.count-is ∙ m, omega (arith, w.count-is, w.if-f-count.false), omega (arith, w.count-is, v.2), v.3)
       | else-is_for w ↦
-          let m = no_more xs c.voters.i c.voters-test.true _ c.loop-other.other-index _ c.loop-other-test.true v.0 _ (e ∙ w.if-is_for.false) in
+          let m = no_more _ c.voters.i c.voters-test.true _ c.loop-other.other-index _ c.loop-other-test.true v.0 _ (e ∙ w.if-is_for.false) in
           (w.count-is ∙ m, omega (arith, w.count-is, v.1), omega (arith, w.count-is, v.2), v.3)
     ]
 
 pub voters-preserved : goal.voters-preserved
 voters-preserved c =
-    let xs = c.as_slice-committed.result.now in
     let u = c.voters.invariant in
     let v = c.loop-other.invariant in
     let i = c.voters.i in
     let j = c.loop-other.other-index in
-    let s : j ≡ i + 1 = omega (arith, c.loop-other-test.false, c.loop-other.auto.other-index-end, length-take (i + 1) xs, c.voters-test.true) in
-    (v.3 ∙ u.0, u.1 ∙ loses xs i c.voters-test.true _ j _ _ s v.0 v.1)
+    let s : j ≡ i + 1 = omega (arith, c.loop-other-test.false, c.loop-other.auto.other-index-end, length-take {A = SignedVote}, c.voters-test.true) in
+    (v.3 ∙ u.0, u.1 ∙ loses _ i c.voters-test.true _ j _ _ s v.0 v.1)
 
 pub returns-after-voters : goal.returns-after-voters
 unfolding winner_at
@@ -124,10 +121,9 @@ returns-after-voters c =
 pub returns-then-f-count : goal.returns-then-f-count
 unfolding winner_at
 returns-then-f-count c =
-    let xs = c.as_slice-committed.result.now in
     let i = c.voters.i in
     let k = c.loop-other-test.true in
     let l = c.voters-test.true in
-    let m = one_more xs i l _ _ _ k c.loop-other.invariant.0 _ (sym c.is_for.ensures ∙ c.if-is_for.true) in
-    let e = c.voters.invariant.1 ∙ wins xs i l _ _ _ _ k m c.if-f-count.true in
+    let m = one_more _ i l _ _ _ k c.loop-other.invariant.0 _ (sym c.is_for.ensures ∙ c.if-is_for.true) in
+    let e = c.voters.invariant.1 ∙ wins _ i l _ _ _ _ k m c.if-f-count.true in
     at_place c.args.self (Some i) (sym (rw (c.num_faulty-f.ensures, c.as_slice-committed.ensures) at e))

@@ -1,0 +1,6 @@
+use Rattle.join_plan.specs.JoinPlan.{plan_of}
+use Rattle.join_plan.proofs.PlanLaws.{fields_bytes}
+use Rattle.join_plan.proofs.JoinPlanEncoded.write.Goals as goal
+
+pub returns : goal.returns
+returns c = rw (← fields_bytes (plan_of c.args.self.now)) c.write.ensures
