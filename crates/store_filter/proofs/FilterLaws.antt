@@ -10,7 +10,7 @@ use Rattle.std.specs.List.{list_any}
 use native.Mathlib.Omega.{arith}
 use lib.Dec.{ltb, eqb}
 use lib.ListN.{length, length-append, length-map}
-use borrow.Author.Tests.{ltb-true, ltb-false, eqb-false, eq-eqb, ne_eqb}
+use borrow.Author.Tests.{ltb-true, ltb-false, eqb-false}
 use Rattle.lists.specs.Lists.{filter}
 use Rattle.array_list.specs.ArrayList.{pushed}
 use Rattle.bincode.specs.Read.{value, refuse}
@@ -69,22 +69,23 @@ first_in (Part p) = refl
 first_in (Ack a) = refl
 
 -- by the small numbers, and by what is read
-module _ (s : List ℕ) (x : SignedKeyGenMsg) (p : MessagePlace) where
-  pub at_other_id : (x.id ≡ p.id → ⊥) → false ≡ stands_at s (signed_of x) p
+module _ (s : List ℕ) (x : SignedKeyGenMsg) (p : MessagePlace) (n : ℕ) (k : n ≡ number_in x.message) where
+  known : eqb n p.first ≡ eqb (first_of (signed_of x)) p.first
+  known = ap (λ (m : ℕ). eqb m p.first) (k ∙ sym (first_in x.message))
+
+  by_numbers : (a b : Bool) → eqb x.id p.id ≡ a → eqb (first_of (signed_of x)) p.first ≡ b
+      → ((a && b) ≡ true → is_read (signed_of x) (read_signed_key_gen_msg base s p.at) ≡ stands_at s (signed_of x) p)
+      × ((a && b) ≡ false → false ≡ stands_at s (signed_of x) p)
   unfolding stands_at
-  at_other_id n = rw (ne_eqb x.id p.id n) refl
+  by_numbers true true e f = (λ h. rw (e, f) refl, λ h. absurd (cc))
+  by_numbers true false e f = (λ h. absurd (cc), λ h. rw (e, f) refl)
+  by_numbers false b e f = (λ h. absurd (cc), λ h. rw e refl)
 
-  module _ (e : x.id ≡ p.id) where
-    number_known : eqb (number_in x.message) p.first ≡ eqb (first_of (signed_of x)) p.first
-    number_known = ap (λ (n : ℕ). eqb n p.first) (sym (first_in x.message))
+  pub at_place : (eqb x.id p.id && eqb n p.first) ≡ true → is_read (signed_of x) (read_signed_key_gen_msg base s p.at) ≡ stands_at s (signed_of x) p
+  at_place h = (by_numbers _ _ refl (sym known)).0 h
 
-    pub at_other_first : eqb (number_in x.message) p.first ≡ false → false ≡ stands_at s (signed_of x) p
-    unfolding stands_at
-    at_other_first n = rw (eq-eqb x.id p.id e, sym number_known ∙ n) refl
-
-    pub at_place : eqb (number_in x.message) p.first ≡ true → is_read (signed_of x) (read_signed_key_gen_msg base s p.at) ≡ stands_at s (signed_of x) p
-    unfolding stands_at
-    at_place n = rw (eq-eqb x.id p.id e, sym number_known ∙ n) refl
+  pub at_other : (eqb x.id p.id && eqb n p.first) ≡ false → (eqb x.id p.id && eqb n p.first) ≡ stands_at s (signed_of x) p
+  at_other h = h ∙ (by_numbers _ _ refl (sym known)).1 h
 
 -- a message is the one at a place if it equals the one that is read there
 stands : (s : List ℕ) (x : SignedKeyGenMsgOf) (e : Entry) → ReadAt s e → stands_at s x (place_of e) ≡ same_signed x e.message

@@ -66,7 +66,7 @@ fn is_read_at(x: &SignedKeyGenMsg, s: &[u8], at: usize) -> bool
 fn is_at(x: &SignedKeyGenMsg, p: &MessagePlace, s: &[u8]) -> bool
     ensures { result ≡ stands_at s.now (signed_of x.now) p.now }
 {
-    x.id == p.id && number_in(&x.message) == p.first && is_read_at(x, s, p.at)
+    (x.id == p.id) & (number_in(&x.message) == p.first) && is_read_at(x, s, p.at)
 }
 
 // Whether a stored message is one of those that are listed.
