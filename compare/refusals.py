@@ -164,3 +164,8 @@ def bad_lines(s, r):
 
 # Lines that are no call `board`.
 BAD_BOARDS = ["board 1", "board -", "board ", "boards", " board", "board board"]
+
+# Lines that are no conversion of a join plan: a field too few or too many, a length over 2,000 or that is none, bytes that are none, other words.
+BAD_PLANS = ["plan-new", "plan-old", "plan-new 00", "plan-old 448", "plan-new - 491 0", "plan-old - 448 ", "plan-new - 2001", "plan-old - 2001", "plan-new 00 -", "plan-old 00 -1",
+             "plan-old 0 448", "plan-new 0g 491", "plan-old FF 448", "plan-new  491", "plan-old - 18446744073709551615", "plan-old - 18446744073709551616", "plan-new - 000000000000000000491",
+             "plan-news - 491", "plan-ol - 448", " plan-new - 491", "plan-New - 491"]

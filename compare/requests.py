@@ -6,6 +6,8 @@ asks for it; whatever is exempt nowhere must be answered in the Rust's own words
 | CR 1 | a batch of another era than the engine's; the Rust's batches have no era, so the oracle hands none of them on | `refused 15`, or 1 to 4, which come before it |
 | CR 2 | a batch with key messages of a leaving node, at the first of which the Rust errs | the Rust's answer to the batch without them, with their faults put in; `refused 7` where it has none |
 
+CR 3 and CR 5 exempt nothing: the Rust has no `board`, no `plan-new` and no `plan-old`, so the oracle is not asked, and what must be answered is a rule of the generator's own (board.py, plans.py).
+
 CR 2, more closely. A leaving node's key message is one that was row 6 (`is_leaving`). A batch that has some, and that no row before 7 refuses, is put to the oracle twice more:
 
 - without those messages and their verdicts (`try ..`, which changes no state). The Rust's answer to that is what must be answered, but for the faults put in;

@@ -2,13 +2,15 @@
 
 Each line of a log comes with what must be answered (requests.py): the oracle's own words, or, for a call that was built to be refused, `refused N`
 with the number of the row that it was built for, or `refused *` for bytes that were damaged at random (some refusal, no number stated). The Rust has no tally
-board: what must be answered to `board` is worked out from the votes that it tells (board.py)."""
+board and converts no join plan: what must be answered to `board` is worked out from the votes that it tells (board.py), to `plan-new` and `plan-old` from the call (plans.py)."""
 import random
 import subprocess
 import board
+import plans
 import requests
 import schedule_edges
 import wire
+from plan_numbers import EDGES
 
 LAST = 2**64 - 1
 FULL = (1024, 1025)
@@ -37,7 +39,7 @@ class Oracle:
 class Season:
     def __init__(self, oracle, seed, small=False, deep=False, rust=False):
         """A small season has few nodes, fewer calls, and shows the state now and then only: the sample is made of such.
-        A deep one shows after each accepted call everything that a log can show: the board, the state, each pending vote, each stored message.
+        A deep one shows after each accepted call everything that a log can show: the board, the state, each pending vote, each stored message; after each report its join plan, in both editions.
         A season for the Rust has no batch at which the Rust errs, so leaving nodes send nothing, and no board."""
         self.o, self.r, self.small, self.deep, self.rust = oracle, random.Random(seed), small, deep, rust
         # apart, so that a season keeps its other calls where these are added or left out
@@ -46,6 +48,7 @@ class Season:
         self.away = random.Random("leaving %d" % seed)
         self.tally = random.Random("board %d" % seed)
         self.edges = random.Random("schedule %d" % seed)
+        self.editions = random.Random("plans %d" % seed)
         self.every_board = deep  # whether a board is asked behind each call that may change a state
         self.boards = []  # for each board that was asked: the call before it and its answer, the states told before that call and now
         self.heard = []  # key messages that were received or handed back, some of which are stored
@@ -69,6 +72,7 @@ class Season:
     def say(self, line, number=None, maybe=False):
         """A call; with a number it was built for that row of the table, with `maybe` the Rust may take it all the same."""
         assert line != "board", "the Rust has none: ask_board"
+        assert not line.startswith(("plan-new ", "plan-old ")), "the Rust has none: convert"
         changing = line.split(" ")[0] in CHANGING
         before = self.o.ask("state") if changing else None
         a = requests.asked(line, self.o.ask, number, maybe)
@@ -76,8 +80,12 @@ class Season:
         self.answers.append(a)
         if changing and self.board_wanted(line):
             self.ask_board(line, a, before)
+        if line.startswith("plan ") and a.startswith("plan ") and self.conversion_wanted():
+            self.there_and_back(a[5:])
         if self.deep and changing and (a == "refused 15" or not a.startswith(("refused", "no engine"))):
             self.show_all()
+        if self.deep and a.startswith("batch "):
+            self.show_plan()
         return a
 
     def board_wanted(self, line):
@@ -90,6 +98,32 @@ class Season:
         now = self.o.ask("state")
         self.add("board", board.answer(now))
         self.boards.append((call, told, before or now, now))
+
+    def conversion_wanted(self):
+        """Behind every second join plan; in a deep season behind each."""
+        return (self.editions.random() < 0.5 or self.deep) and not self.rust
+
+    def convert(self, stated, line):
+        """A conversion of a join plan, with the answer for which it was built."""
+        told = plans.answer(line)
+        if told != stated:
+            raise SystemExit("%s is stated, and the rule has %s: %s" % (stated, told, line))
+        self.add(line, told)
+
+    def there_and_back(self, plan):
+        """A join plan of the Rust's own in the new edition, and that in the old one, which must be the Rust's bytes again."""
+        line = "plan-new %s 491" % plan
+        told = self.add(line, plans.answer(line))
+        if not told.startswith("plan "):
+            raise SystemExit("the rule refuses a join plan of the Rust: %s" % line)
+        self.convert("plan " + plan, "plan-old %s 448" % told[5:])
+        plans.SEEN["the Rust's own, there and back"] += 1
+
+    def show_plan(self):
+        """Asks for the join plan of a report, with key sets at the edges in turn, and converts it."""
+        told = self.show("plan %d 448" % EDGES[len(self.lines) % len(EDGES)])
+        if told.startswith("plan "):
+            self.there_and_back(told[5:])
 
     def built(self, number, line):
         """A call as refusals.py builds it: for a row, or without a number a batch that is reported."""

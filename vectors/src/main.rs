@@ -1,6 +1,19 @@
 //! Makes the test vectors of crates/decode with the real bincode library: `stdin`, a line `KIND HEX` for each, and `stdout`, the
 //! answers, which come from here and never from the code under test. A valid value answers with bincode's own encoding of it; a damaged
 //! one with the number of the row for which it was built. What the library itself does with each damage is checked beside it.
+//! `vectors standing FOLDER` makes those; `vectors random FOLDER SEED COUNT` makes lines on COUNT join plans of both editions at random, in another folder; `vectors logs FOLDER` holds the
+//! conversions of join plans in the logs that compare/generate wrote into a folder to the library.
+mod damage;
+mod edges;
+mod library;
+mod lines;
+mod logs;
+mod numbers;
+mod plans;
+mod shapes;
+mod table;
+mod wide;
+
 use serde::{de::DeserializeOwned, Deserialize, Serialize};
 use std::collections::BTreeMap;
 use std::fmt::Write as _;
@@ -28,17 +41,18 @@ struct Params {
     encryption_schedule: EncryptionSchedule,
 }
 
+// What holds a map can hold it as plain pairs too (logs.rs), which are the same bytes.
 #[derive(Serialize, Deserialize, Clone, PartialEq, Debug)]
-enum Change {
-    NodeChange(Map),
+enum Change<M = Map> {
+    NodeChange(M),
     EncryptionSchedule(EncryptionSchedule),
 }
 
 #[derive(Serialize, Deserialize, Clone, PartialEq, Debug)]
-enum ChangeState {
+enum ChangeState<M = Map> {
     None,
-    InProgress(Change),
-    Complete(Change),
+    InProgress(Change<M>),
+    Complete(Change<M>),
 }
 
 #[derive(Serialize, Deserialize, Clone, PartialEq, Debug)]
@@ -87,10 +101,10 @@ struct InternalContrib {
 type Batch = BTreeMap<u32, InternalContrib>;
 
 #[derive(Serialize, Deserialize, Clone, PartialEq, Debug)]
-struct JoinPlan {
+struct JoinPlan<M = Map> {
     era: u64,
-    change: ChangeState,
-    pub_keys: Map,
+    change: ChangeState<M>,
+    pub_keys: M,
     pub_key_set: u64,
     params: Params,
 }
@@ -296,6 +310,11 @@ impl Out {
     }
     fn note(&mut self, line: &str) {
         writeln!(self.input, "# {}", line).unwrap();
+    }
+    fn append(&mut self, more: &Out) {
+        self.input += &more.input;
+        self.answers += &more.answers;
+        self.count += more.count;
     }
     /// A valid value answers with the library's encoding of it; a map and a vote are shown too.
     fn valid(&mut self, kind: &str, bytes: &[u8], shown: &str) {
@@ -593,8 +612,22 @@ fn users(rng: &mut Rng, out: &mut Out) {
     }
 }
 
-fn main() {
-    let dir = std::env::args().nth(1).expect("the folder to write stdin and stdout into");
+fn write_files(dir: &str, out: &Out) {
+    std::fs::write(format!("{}/stdin", dir), &out.input).unwrap();
+    std::fs::write(format!("{}/stdout", dir), &out.answers).unwrap();
+}
+
+fn no_values(out: &mut Out) {
+    out.note("no values at all");
+    let values = ["user 000000", "map 0", "map 0g", "map 0A", "map", "maps 00", "map 00 00", " map 00"];
+    let conversions = ["plan-new", "plan-old", "plan-new 0", "plan-old 0g", "plan-new 0A", "plan-old 00 00", "plan-olds 00", "plan-New 00", "plan 00 491"];
+    for bad in values.iter().chain(&conversions) {
+        writeln!(out.input, "{}", bad).unwrap();
+        writeln!(out.answers, "bad line").unwrap();
+    }
+}
+
+fn standing(dir: &str) {
     let mut rng = Rng(0x9e37_79b9_7f4a_7c15);
     let mut out = Out::default();
     out.note("Made by vectors/ with the bincode library; see CONTRIBUTING.md. A line is a kind of value and its bytes.");
@@ -607,15 +640,30 @@ fn main() {
     plans(&mut rng, &mut out);
     batches(&mut rng, &mut out);
     users(&mut rng, &mut out);
-    out.note("no values at all");
-    for bad in ["user 000000", "map 0", "map 0g", "map 0A", "map", "maps 00", "map 00 00", " map 00"] {
-        writeln!(out.input, "{}", bad).unwrap();
-        writeln!(out.answers, "bad line").unwrap();
-    }
-    std::fs::write(format!("{}/stdin", dir), &out.input).unwrap();
-    std::fs::write(format!("{}/stdout", dir), &out.answers).unwrap();
-    eprintln!("{} vectors; of the damaged ones the library accepts:", out.count);
+    let conversions = plans::standing();
+    out.append(&conversions.out);
+    no_values(&mut out);
+    write_files(dir, &out);
+    eprintln!("{} vectors, {} of them on plans of both editions; of the other damaged ones the library accepts:", out.count, conversions.out.count);
     for (why, n) in &out.accepted_damage {
         eprintln!("  {} {}", n, why);
+    }
+    eprint!("{}", conversions.table.text());
+}
+
+fn random(dir: &str, seed: &str, count: &str) {
+    let lines = plans::at_random(seed.parse().expect("a seed"), count.parse().expect("how many plans"));
+    write_files(dir, &lines.out);
+    print!("{}", lines.table.text());
+}
+
+fn main() {
+    let args: Vec<String> = std::env::args().skip(1).collect();
+    let words: Vec<&str> = args.iter().map(String::as_str).collect();
+    match words.as_slice() {
+        ["standing", dir] => standing(dir),
+        ["random", dir, seed, count] => random(dir, seed, count),
+        ["logs", dir] => logs::check(dir),
+        _ => panic!("vectors standing FOLDER, vectors random FOLDER SEED COUNT, or vectors logs FOLDER"),
     }
 }

@@ -11,6 +11,7 @@ use Rattle.bincode.specs.Read.{Read, value, refuse, whole}
 use Rattle.bincode.specs.Outcome.{Outcome, done, refused}
 use Rattle.bincode.specs.Numbers.{fixed}
 use Rattle.bincode.specs.Sizes.{Sizes, base}
+use Rattle.bincode.proofs.ReadLaws.{done_refused}
 use Rattle.pub_key_map.specs.declared.Node.{Node}
 use Rattle.pub_key_map.specs.PubKeyMap.{read_map}
 use Rattle.params.specs.declared.Params.{Params}
@@ -27,10 +28,6 @@ use Rattle.agreement.specs.Claim.{opened_by, planned_by, ref_start, FollowsFrom,
 use Rattle.agreement.proofs.Follow.{follows}
 
 module _ {A : Type 0} where
-  -- not both a result and a refusal
-  pub done_refused : {a : A} {n : ℕ} → refused n ≡ done a → ⊥
-  done_refused p = let z : ◌≡◌ {A = ℕ} 0 1 = cc in omega arith
-
   -- what is found, and what is not
   pub found_same : {a b : A} → found a ≡ found b → a ≡ b
   found_same e = cc

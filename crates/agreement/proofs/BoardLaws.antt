@@ -8,6 +8,7 @@ use Rattle.lists.specs.Lists.{Found, found, nothing}
 use Rattle.bincode.specs.Outcome.{Outcome, done, refused}
 use Rattle.bincode.specs.Sizes.{Sizes}
 use Rattle.bincode.specs.Items.{foldl}
+use Rattle.bincode.proofs.ReadLaws.{done_refused}
 use Rattle.pub_key_map.specs.declared.Node.{Node}
 use Rattle.change.specs.Change.{ChangeOf, node_change, encryption_schedule, ChangeStateOf, none, in_progress, complete}
 use Rattle.votes.specs.Votes.{SignedVoteOf}
@@ -32,7 +33,6 @@ use Rattle.reference.specs.Reference.{RefState}
 use Rattle.agreement.specs.Shared.{ref_of}
 use Rattle.agreement.specs.Claim.{OneBoard}
 use Rattle.agreement.specs.Calls.{Call, batch_call, vote_call, add_call, remove_call, message_call, due_call, after, run, Start, new_start, join_start, start_state, joined_state}
-use Rattle.agreement.proofs.Agree.{done_refused}
 use Rattle.agreement.proofs.OwnCalls.{Keeps, vote_for_kept, vote_to_add_kept, vote_to_remove_kept, message_kept, due_kept}
 
 -- the board of a state's counter is the one worked out, and voters ascend

@@ -34,7 +34,6 @@ use Rattle.agreement.proofs.FullLaws as full
 use Rattle.agreement.proofs.FullLaws.{same_taken_given}
 use Rattle.agreement.proofs.Joiner as joiner
 use Rattle.agreement.proofs.WrittenPlan as written
-use Rattle.agreement.proofs.WrittenPlan.{base_plan}
 use Rattle.agreement.proofs.FormedLaws.{reached_formed}
 
 -- The claim. From every accepted start on, and after every list of calls, a replica is where the reference state is that the start's map, era and parameters (a
@@ -84,7 +83,7 @@ module _ (start : Start) (start_bytes : StartBytes start) (a : StateOf) (starts 
   pub joiner_starts : (r₀ : RefState) → ref_start base start ≡ found r₀ → (l : List ℕ) (n : ℕ) → plan_answered base l r.batch set ≡ done (found n) → (places id key : ℕ)
       → ref_start base (join_start places id key (take n (plan_left base l r.batch set))) ≡ found (ref_run base r₀ (shared_batches base a (before ++ (batch_call b ∷ []))))
   joiner_starts r₀ opens l n e places id key =
-      written.written_plan_starts base base_fits (omega arith) (omega arith) (omega arith) (omega arith) base_plan
+      written.written_plan_starts base base_fits (omega arith) (omega arith) (omega arith) (omega arith) (omega arith)
       start start_bytes a starts before before_bytes b batch-bytes r answered began fresh set set_fits l n e places id key r₀ opens
 
   module _ (l : List ℕ) (n : ℕ) (e : plan_answered base l r.batch set ≡ done (found n))
@@ -96,7 +95,7 @@ module _ (start : Start) (start_bytes : StartBytes start) (a : StateOf) (starts 
     both_follow r₀ opens = (
       joiner.giver_follows base base_fits (omega arith) (omega arith) (omega arith)
           start start_bytes a starts before before_bytes b batch-bytes r answered began fresh set set_fits r₀ opens cs,
-      written.joiner_follows base base_fits (omega arith) (omega arith) (omega arith) (omega arith) base_plan
+      written.joiner_follows base base_fits (omega arith) (omega arith) (omega arith) (omega arith) (omega arith)
           start start_bytes a starts before before_bytes b batch-bytes r answered began fresh set set_fits l n e places id key j joins r₀ opens ds,
     )
 
@@ -104,7 +103,7 @@ module _ (start : Start) (start_bytes : StartBytes start) (a : StateOf) (starts 
     pub joiner_agrees_shared : shared_batches base (processed base (run base a before) b).state cs ≡ shared_batches base j.state ds
         → Agree base (processed base (run base a before) b).state cs j.state ds
     joiner_agrees_shared =
-        written.agree_by_written_plan base base_fits (omega arith) (omega arith) (omega arith) (omega arith) base_plan
+        written.agree_by_written_plan base base_fits (omega arith) (omega arith) (omega arith) (omega arith) (omega arith)
         start start_bytes a starts before before_bytes b batch-bytes r answered began fresh set set_fits l n e places id key j joins cs ds
 
     -- and so they do in the user's own form, r₁ being the reference state at which the joiner starts
@@ -116,7 +115,7 @@ module _ (start : Start) (start_bytes : StartBytes start) (a : StateOf) (starts 
         (same_taken_given base base_fits cs ds (processed base (run base a before) b).state j.state (ref_run base r₀ (shared_batches base a (before ++ (batch_call b ∷ []))))
         (joiner.giver_stands base base_fits (omega arith) (omega arith) (omega arith)
         start start_bytes a starts before before_bytes b batch-bytes r answered began fresh set set_fits r₀ opens)
-        (written.joiner_stands base base_fits (omega arith) (omega arith) (omega arith) (omega arith) base_plan
+        (written.joiner_stands base base_fits (omega arith) (omega arith) (omega arith) (omega arith) (omega arith)
         start start_bytes a starts before before_bytes b batch-bytes r answered began fresh set set_fits l n e places id key j joins r₀ opens)
         f g q)
 

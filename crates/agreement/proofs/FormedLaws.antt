@@ -12,7 +12,7 @@ use Rattle.bincode.specs.Numbers.{fixed}
 use Rattle.bincode.specs.Sizes.{Sizes}
 use Rattle.bincode.specs.Stands.{Bytes, All}
 use Rattle.bincode.proofs.CodeLaws.{fixed_codes, one_encoding}
-use Rattle.bincode.proofs.ReadLaws.{or_false}
+use Rattle.bincode.proofs.ReadLaws.{or_false, done_refused}
 use Rattle.pub_key_map.specs.declared.Node.{Node}
 use Rattle.pub_key_map.specs.PubKeyMap.{read_map, map_bytes, MapOk}
 use Rattle.pub_key_map.proofs.MapCodes.{map_codes}
@@ -27,7 +27,7 @@ use Rattle.dynamic_honey_badger.specs.State.{StateOf, fresh_key_gen, key_gen_for
 use Rattle.vote_counter.proofs.BoardKept.{worked_none}
 use Rattle.agreement.specs.Calls.{Call, batch_call, vote_call, add_call, remove_call, message_call, due_call, after, run, Start, new_start, join_start, joined_state, start_state}
 use Rattle.agreement.specs.Formed.{MapFormed, Formed, CallFits, StartFits}
-use Rattle.agreement.proofs.Agree.{done_refused, accepted_plan}
+use Rattle.agreement.proofs.Agree.{accepted_plan}
 use Rattle.agreement.proofs.FormedParts.{no_votes}
 use Rattle.agreement.proofs.FormedKeyGen.{fresh_formed}
 use Rattle.agreement.proofs.FormedChanges.{with_key_gen_lem}
@@ -126,7 +126,7 @@ start_formed z nodes-fit (join_start places id key plan) fits s e = go (join_che
     go (done p) f g =
         let q : (joined_with z id key p).state ≡ s = cc in
         let r = accepted_plan z places id key plan p f in
-        subst (Formed z) q (plan_formed z id key p fits.0 fits.1 (plan_one_encoding z nodes-fit plan p r.0 fits.2 r.1).1 r.2)
+        subst (Formed z) q (plan_formed z id key p fits.0 fits.1 (plan_one_encoding fixed fixed_codes z nodes-fit plan p r.0 fits.2 r.1).1 r.2)
 
 -- so every state that is reached from an accepted start is formed
 pub reached_formed : (z : Sizes) → z.nodes < 256 ^ 8 → z.rows < 256 ^ 8 → z.user < 256 ^ 8

@@ -15,7 +15,7 @@ use Rattle.bincode.specs.Numbers.{read_num, fixed}
 use Rattle.bincode.specs.Sizes.{Sizes}
 use Rattle.bincode.specs.Stands.{Bytes, All}
 use Rattle.bincode.proofs.CodeLaws.{fixed_codes, one_encoding}
-use Rattle.bincode.proofs.ReadLaws.{clash, same_value, cond_value, bind_value}
+use Rattle.bincode.proofs.ReadLaws.{clash, same_value, cond_value, bind_value, done_refused}
 use Rattle.network_info.specs.NetworkInfo.{key_of}
 use Rattle.fault_log.specs.declared.FaultKind.TheVariants.{InvalidVoteSignature, UnexpectedDhbMessageEra, InvalidKeyGenMessageSignature, TooManyKeyGenMessages}
 use Rattle.change.specs.Change.{ChangeOf, node_change, read_change, change_bytes, ChangeOk}
@@ -35,7 +35,6 @@ use Rattle.dynamic_honey_badger.specs.State.{StateOf, era_of, nodes_in, with_key
 use Rattle.dynamic_honey_badger.specs.OwnVotes.{VotedOf, voted_as, signed_in, vote_for, vote_for_read, vote_for_bytes, vote_to_add, vote_to_remove}
 use Rattle.dynamic_honey_badger.specs.Received.{HandledOf, handled_as, quiet, fault, voted_in, stored_in, key_gen_in, received_key_gen, message_era, signed_by, received_now, received_content, received_read, received, read_due_item, returned_key_gen, returned_read, returned}
 use Rattle.agreement.specs.Formed.{KeyGenFormed, RunningFormed, Formed}
-use Rattle.agreement.proofs.Agree.{done_refused}
 use Rattle.agreement.proofs.AllLaws.{all_lookup, all_more}
 use Rattle.agreement.proofs.FormedParts.{with_node_ok, without_node_ok, signer_member, vote_more}
 use Rattle.agreement.proofs.FormedKeyGen.{counted_formed}

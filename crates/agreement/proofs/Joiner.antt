@@ -11,6 +11,7 @@ use Rattle.bincode.specs.Outcome.{done}
 use Rattle.bincode.specs.Sizes.{Sizes}
 use Rattle.bincode.specs.Numbers.{fixed}
 use Rattle.bincode.specs.Stands.{Bytes, All}
+use Rattle.bincode.proofs.CodeLaws.{fixed_codes}
 use Rattle.pub_key_map.specs.declared.Node.{Node}
 use Rattle.pub_key_map.proofs.MapLaws.{map_refl}
 use Rattle.honey_badger.specs.declared.EncryptionSchedule.{EncryptionSchedule}
@@ -89,7 +90,7 @@ run_then z (c ∷ cs) ds s = run_then z cs ds (after z s c)
 -- a plan's own bytes open the plan's reference state
 plan_opens : (z : Sizes) → z.nodes < 256 ^ 8 → (places id key : ℕ) (p : PlanOf) → PlanOk z p → ref_start z (join_start places id key (plan_bytes fixed p)) ≡ found (plan_ref p)
 unfolding ref_start
-plan_opens z nodes-fit places id key p o = ap planned_by (plan_round_trip z nodes-fit p o)
+plan_opens z nodes-fit places id key p o = ap planned_by (plan_round_trip fixed fixed_codes z nodes-fit p o)
 
 module _ (z : Sizes) where
   shared_bytes : (cs : List Call) (s : StateOf) → OfBytes cs → All (λ (b : SharedBatch). Bytes b.bytes) (shared_batches z s cs)

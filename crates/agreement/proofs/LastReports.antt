@@ -7,6 +7,7 @@ use mathlib.Core.List.{List, [], ◌∷◌}
 use Rattle.lists.specs.Lists.{Found, found, nothing}
 use Rattle.bincode.specs.Outcome.{Outcome, done, refused}
 use Rattle.bincode.specs.Sizes.{Sizes}
+use Rattle.bincode.proofs.ReadLaws.{done_refused}
 use Rattle.change.specs.Change.{node_change, encryption_schedule, ChangeStateOf, none, in_progress, complete}
 use Rattle.join_plan.specs.JoinPlan.{PlanOf}
 use Rattle.joining.specs.Starting.{StartOf, start_checked, join_checked}
@@ -16,7 +17,6 @@ use Rattle.process_output.specs.Process.{BatchCall, ReportOf, processed, last_af
 use Rattle.process_output.proofs.CallLaws.{processed_last}
 use Rattle.agreement.specs.Calls.{Call, batch_call, vote_call, add_call, remove_call, message_call, due_call, after, run, report_then, reports, stamp_of, last_stamp, Start, new_start, join_start, joined_state, start_state}
 use Rattle.agreement.proofs.OwnCalls.{vote_for_kept, vote_to_add_kept, vote_to_remove_kept, message_kept, due_kept}
-use Rattle.agreement.proofs.Agree.{done_refused}
 
 -- the last of a list of reports, where l was kept before
 abbrev last_from : Found Stamp → List ReportOf → Found Stamp

@@ -7,6 +7,7 @@ use Rattle.lists.specs.Lists.{Found, found, nothing, map_found}
 use Rattle.bincode.specs.Read.{Read, value, refuse}
 use Rattle.bincode.specs.Outcome.{done}
 use Rattle.bincode.specs.Sizes.{Sizes}
+use Rattle.bincode.proofs.ReadLaws.{done_refused}
 use Rattle.pub_key_map.specs.declared.Node.{Node}
 use Rattle.key_gen_state.specs.KeyGenState.{KeyGenStateOf}
 use Rattle.batch.specs.Batch.{BatchOf}
@@ -21,7 +22,6 @@ use Rattle.agreement.specs.Calls.{as_shared}
 use Rattle.agreement.proofs.KeptLaws.{all_any, map_of, Kept, contribs_keep}
 use Rattle.agreement.proofs.PassedCalls.{reported_shared}
 use Rattle.agreement.proofs.Follow.{batch_follows}
-use Rattle.agreement.proofs.Agree.{done_refused}
 
 -- the candidate map of the reference state
 abbrev pub candidate_map : RefState → Found (List Node)

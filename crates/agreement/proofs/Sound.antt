@@ -16,6 +16,7 @@ use Rattle.bincode.specs.Outcome.{done}
 use Rattle.bincode.specs.Sizes.{Sizes}
 use Rattle.bincode.specs.Stands.{Bytes, Each, All}
 use Rattle.bincode.proofs.CodeLaws.{fixed_codes, one_encoding}
+use Rattle.bincode.proofs.ReadLaws.{done_refused}
 use Rattle.pub_key_map.specs.declared.Node.{Node}
 use Rattle.pub_key_map.specs.PubKeyMap.{read_map, map_bytes, MapOk}
 use Rattle.pub_key_map.proofs.MapCodes.{map_codes}
@@ -42,7 +43,7 @@ use Rattle.agreement.specs.Calls.{Start, new_start, join_start}
 use Rattle.agreement.specs.Claim.{opened_by, planned_by, ref_start}
 use Rattle.agreement.specs.Hypotheses.{StartBytes}
 use Rattle.agreement.proofs.KeptLaws.{map_of, Kept, contribs_keep}
-use Rattle.agreement.proofs.Agree.{done_refused, found_same, not_found}
+use Rattle.agreement.proofs.Agree.{found_same, not_found}
 
 -- what is found is such as P holds of
 module _ {A : Type 0} (P : A → Type 0) where
@@ -211,4 +212,4 @@ module _ (z : Sizes) where
     where
       go : (x : Read PlanOf) → whole (read_plan fixed z plan) plan ≡ x → planned_by x ≡ found r → RefOk r
       go (refuse n) f e = absurd (not_found e)
-      go (value p c) f e = subst RefOk (found_same e) (plan_ok p (plan_one_encoding z nodes-fit plan p c bytes f).1)
+      go (value p c) f e = subst RefOk (found_same e) (plan_ok p (plan_one_encoding fixed fixed_codes z nodes-fit plan p c bytes f).1)

@@ -1,6 +1,7 @@
 -- 01: the report is epoch, era of the batch, change, map and parameters. And the join plan that a report gives.
 use Rattle.std.specs.Prelude.{ℕ, ◌+◌, List, Bool, true, false, cond, eqb}
 use Rattle.lists.specs.Lists.{Found, found, nothing}
+use Rattle.bincode.specs.Numbers.{fixed}
 use Rattle.bincode.specs.Sizes.{Sizes}
 use Rattle.bincode.specs.Outcome.{Outcome, done, refused}
 use Rattle.pub_key_map.specs.declared.Node.{Node}
@@ -37,7 +38,7 @@ no_next b = eqb b.epoch 18446744073709551615
 -- the buffer after the call: row 1, no plan, row 5, the plan
 unfoldable pub plan_left : Sizes → List ℕ → BatchOf → ℕ → List ℕ
 plan_left z l b set =
-    cond (row1 z l) l (cond (changed b.change) (cond (no_next b) l (plan_written z l (plan_of_batch b set))) l)
+    cond (row1 z.plan l) l (cond (changed b.change) (cond (no_next b) l (plan_written fixed z.plan l (plan_of_batch b set))) l)
 
 -- and the answer, in the same order: how many bytes, or that there is no plan
 abbrev pub found_bytes : Outcome ℕ → Outcome (Found ℕ)
@@ -46,5 +47,5 @@ found_bytes (refused n) = refused n
 
 unfoldable pub plan_answered : Sizes → List ℕ → BatchOf → ℕ → Outcome (Found ℕ)
 plan_answered z l b set =
-    cond (row1 z l) (refused 1)
-    (cond (changed b.change) (cond (no_next b) (refused 5) (found_bytes (plan_said z l (plan_of_batch b set)))) (done nothing))
+    cond (row1 z.plan l) (refused 1)
+    (cond (changed b.change) (cond (no_next b) (refused 5) (found_bytes (plan_said fixed z.plan l (plan_of_batch b set)))) (done nothing))

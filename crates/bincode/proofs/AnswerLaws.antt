@@ -16,6 +16,7 @@ use Rattle.bincode.specs.Answer.{answer_as_read, answer, step_of, all_read}
 use Rattle.bincode.specs.declared.Refusal.{Refusal}
 use Rattle.bincode.specs.declared.Refusal.TheVariants.{Malformed}
 use Rattle.bincode.proofs.NumberLaws.{read_refused}
+use Rattle.bincode.proofs.RowLaws.{row_named}
 use Rattle.bincode.proofs.ReadLaws.{answer_err, step_err}
 
 -- a number that was read, and one that was not
@@ -25,6 +26,11 @@ module _ (w : ℕ) (s : List ℕ) (at : ℕ) {t : Result (ℕ × ℕ) Refusal} (
 
   pub num_cut : {r : Refusal} → t ≡ Err r → read_num w s at ≡ refuse 2
   num_cut p = read_refused w s at _ (sym e ∙ ap (answer_as_read (λ (x : ℕ). x)) p)
+
+-- what is seen of an answer tells the answer
+pub seen_answer : (t : Result (ℕ × ℕ) Refusal) (x : Read ℕ) → answer_as_read (λ (y : ℕ). y) t ≡ x → t ≡ answer (λ (y : ℕ). y) x
+seen_answer (Ok (a, c)) x e = ap (answer (λ (y : ℕ). y)) e
+seen_answer (Err r) x e = ap Err (sym (row_named r)) ∙ ap (answer (λ (y : ℕ). y)) e
 
 -- what the exit of a `?` returns: the refusal that it met
 pub passed_on : {A : Type 0} (r : Result A Refusal) (e : Refusal) → IsErrAnd r (λ (y : Refusal). y ≡ e) → r ≡ Err e

@@ -16,11 +16,18 @@ use Rattle.bincode.specs.Read.{Read, value, refuse, bind, whole}
 use Rattle.bincode.specs.Numbers.{le, bytes_of, read_num, Edition, fixed}
 use Rattle.bincode.specs.Items.{items, counted, plain, stay}
 use Rattle.bincode.specs.Stands.{Bytes, Stands, concat_map, Each, All}
-use Rattle.bincode.specs.Codes.{Codes, NumberCodes}
+use Rattle.bincode.specs.Codes.{Codes, Width, NumberCodes}
 use Rattle.bincode.proofs.NumberLaws.{length_bytes_of, le_bytes_of, bytes_of_le, bytes_bytes_of, bytes_part, part_below, read_whole, read_value}
 use Rattle.bincode.proofs.ReadLaws.{clash, bind_value, cond_value}
 use Rattle.bincode.proofs.ItemLaws.{uncons}
 use Rattle.bincode.proofs.StandLaws.{stands_left, stands_right, stands_both, stands_self, stands_all, bytes_append}
+
+-- the widths of 01's and 02's fields
+pub four : Width 4
+four = (lit< tt, omega arith)
+
+pub eight : Width 8
+eight = (lit< tt, omega arith)
 
 -- a number of the fixed widths
 pub fixed_codes : (s : List ℕ) → NumberCodes fixed s
@@ -202,7 +209,7 @@ module _ {S A : Type 0} (s : List ℕ) (rd : S → ℕ → Read A) (next : S →
   unfolding counted
   counted_any e num limit st =
       restate (λ xs o. (o.1.0, o.1.1.0, o.1.1.1)) (λ xs o. (tt, (o.0, (o.1, o.2))))
-      (field {H = λ xs. Unit {0}} {Q = λ xs. (length xs ≤ limit) × Each next Ok st xs} length (num 8 (lit< tt)) λ n.
+      (field {H = λ xs. Unit {0}} {Q = λ xs. (length xs ≤ limit) × Each next Ok st xs} length (num 8 eight) λ n.
       guard (ltb limit n) 3
       (λ t. restate (λ xs o. let l = ltb-false limit n t in ((tt, o.0), (omega arith, o.1))) (λ xs o. (o.0.1, o.1.1)) (items_codes n st))
       (λ xs o. let l = o.0.1 in le-ltb limit n (omega (arith, o.1.0))))
@@ -215,9 +222,9 @@ module _ {S A : Type 0} (s : List ℕ) (rd : S → ℕ → Read A) (next : S →
 
 -- the same for items that do not depend on those before them
 module _ {A : Type 0} (s : List ℕ) (rd : ℕ → Read A) (enc : A → List ℕ) (Ok : A → Type 0) (one : Codes s rd enc Ok) where
-  pub plain_codes : (limit : ℕ) → limit < 256 ^ 8
-      → Codes s (counted (plain rd) stay fixed s limit tt) (λ xs. bytes_of 8 (length xs) ++ concat_map enc xs) (λ xs. (length xs ≤ limit) × All Ok xs)
-  plain_codes limit fits = counted_codes s (plain rd) stay enc (λ u. Ok) (λ u. one) fixed (fixed_codes s) limit fits tt
+  pub plain_codes : (e : Edition) → NumberCodes e s → (limit : ℕ) → limit < 256 ^ 8
+      → Codes s (counted (plain rd) stay e s limit tt) (λ xs. e.bytes 8 (length xs) ++ concat_map enc xs) (λ xs. (length xs ≤ limit) × All Ok xs)
+  plain_codes e num limit fits = counted_codes s (plain rd) stay enc (λ u. Ok) (λ u. one) e num limit fits tt
 
 -- What the inverse laws come to for a whole input: each value that some bytes are read as has just one accepted encoding, its own.
 module _ {A : Type 0} (rd : List ℕ → ℕ → Read A) (enc : A → List ℕ) (Ok : A → Type 0) (codes : (s : List ℕ) → Codes s (rd s) enc Ok) where

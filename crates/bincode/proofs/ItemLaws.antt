@@ -12,7 +12,7 @@ use lib.Dec.{ltb}
 use Rattle.std.specs.declared.result.Result.{Result}
 use Rattle.std.specs.declared.result.Result.TheVariants.{Ok, Err}
 use Rattle.bincode.specs.Read.{Read, value, refuse, bind}
-use Rattle.bincode.specs.Numbers.{fixed, read_num}
+use Rattle.bincode.specs.Numbers.{Edition, fixed, read_num}
 use Rattle.bincode.specs.Items.{after, read_count, items, counted, plain, stay, many, foldl}
 use Rattle.bincode.proofs.NumberLaws.{read_refused}
 use Rattle.bincode.specs.Rows.{row_number, row}
@@ -30,17 +30,17 @@ module _ {A : Type 0} where
   after_after xs ys (refuse k) = refl
 
 -- a count that was read is a number of eight bytes, and not over its limit
-module _ (s : List ℕ) (limit at : ℕ) where
-  pub count_read : {t : Result (ℕ × ℕ) Refusal} → t ≡ answer (λ (x : ℕ). x) (read_count fixed s limit at)
-      → {n c : ℕ} → t ≡ Ok (n, c) → (read_num 8 s at ≡ value n c) × (n ≤ limit)
+module _ (e : Edition) (s : List ℕ) (limit at : ℕ) where
+  pub count_read : {t : Result (ℕ × ℕ) Refusal} → t ≡ answer (λ (x : ℕ). x) (read_count e s limit at)
+      → {n c : ℕ} → t ≡ Ok (n, c) → (e.read 8 s at ≡ value n c) × (n ≤ limit)
   unfolding read_count
   count_read q {n} {c} p =
-      let a = answer_ok (λ (x : ℕ). x) (bind (read_num 8 s at) λ n c. cond (ltb limit n) (refuse 3) (value n c)) n c (sym q ∙ p) in
-      let b = bind_value (read_num 8 s at) (λ n c. cond (ltb limit n) (refuse 3) (value n c)) (a.1) in
+      let a = answer_ok (λ (x : ℕ). x) (bind (e.read 8 s at) λ n c. cond (ltb limit n) (refuse 3) (value n c)) n c (sym q ∙ p) in
+      let b = bind_value (e.read 8 s at) (λ n c. cond (ltb limit n) (refuse 3) (value n c)) (a.1) in
       let d = cond_value (value b.0 b.1) (ltb limit b.0) 3 b.3 in
-      let e : b.0 ≡ n = cc in
+      let g : b.0 ≡ n = cc in
       let f : b.1 ≡ c = cc in
-      (b.2 ∙ (λ t. value (e t) (f t)), rw e at (ltb-false limit b.0 d.0))
+      (b.2 ∙ (λ t. value (g t) (f t)), rw g at (ltb-false limit b.0 d.0))
 
 -- one that was refused: what goes by it is refused by the same number
 module _ {A : Type 0} (limit k : ℕ) (f : ℕ → ℕ → Read A) (r : Refusal) (named : row_number (row k) ≡ k) where
@@ -109,20 +109,20 @@ module _ {S A : Type 0} (rd : S → ℕ → Read A) (next : S → A → S) where
       let u = uncons n st at xs c p in
       ap length u.5 ∙ ap suc (length_items n (next st u.0) u.1 u.2 c u.4)
 
-  -- a counted run goes by its count, for the fixed widths
+  -- a counted run goes by its count
+  pub counted_start : (e : Edition) (s : List ℕ) (limit : ℕ) (st : S) (at n c : ℕ) → e.read 8 s at ≡ value n c → n ≤ limit
+      → counted rd next e s limit st at ≡ after [] (items rd next (n - 0) st c)
+  unfolding counted
+  counted_start e s limit st at n c r h = rw (r, le-ltb limit n h) (items_start n st c)
+
   module _ (s : List ℕ) (limit : ℕ) (st : S) (at : ℕ) where
-    -- where the count is refused, the run is, by the same number
+    -- where the count is refused, the run is, by the same number; of the fixed widths
     pub counted_refused : {t : Result (ℕ × ℕ) Refusal} → t ≡ answer (λ (x : ℕ). x) (read_count fixed s limit at) → {r : Refusal} → t ≡ Err r
         → counted rd next fixed s limit st at ≡ refuse (row_number r)
     unfolding counted read_count
     counted_refused q {r} p =
         refused_alike limit 3 (λ n c. items rd next n st c) r refl (read_num 8 s at)
         (λ n e. let m : 2 ≡ n = cut_number n e (read_refused 8 s at n e) in ap (λ (k : ℕ). row_number (row k)) (sym m) ∙ m) (sym q ∙ p)
-
-    pub counted_start : (n c : ℕ) → read_num 8 s at ≡ value n c → n ≤ limit
-        → counted rd next fixed s limit st at ≡ after [] (items rd next (n - 0) st c)
-    unfolding counted
-    counted_start n c r h = rw (r, le-ltb limit n h) (items_start n st c)
 
 module _ {A B : Type 0} (f : B → A → B) where
   -- one item more at the end

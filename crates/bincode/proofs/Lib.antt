@@ -11,3 +11,8 @@ pub mod CauseLaws
 pub mod RunCauses
 pub mod RowLaws
 pub mod WriteLaws
+pub mod VariableLaws
+pub mod PageVariableLaws
+pub mod VariableCauses
+pub mod LengthLaws
+pub mod RefusalLaws

@@ -10,6 +10,7 @@ use borrow.Author.Tests.{lt-ltb, le-ltb}
 use Rattle.std.specs.declared.result.Result.{Result}
 use Rattle.std.specs.declared.result.Result.TheVariants.{Ok, Err}
 use Rattle.bincode.specs.Read.{Read, value, refuse, bind, map_read, whole}
+use Rattle.bincode.specs.Outcome.{Outcome, done, refused}
 use Rattle.bincode.specs.Rows.{row}
 use Rattle.bincode.specs.Answer.{answer, step_of}
 use Rattle.bincode.specs.declared.Refusal.{Refusal}
@@ -43,6 +44,10 @@ module _ {A E : Type 0} where
 
   pub crossed : {a : A} {e : E} → ◌≡◌ {A = Result A E} (Err e) (Ok a) → ⊥
   crossed p = let z : ◌≡◌ {A = ℕ} 0 1 = cc in omega arith
+
+module _ {A : Type 0} where
+  pub done_refused : {a : A} {n : ℕ} → ◌≡◌ {A = Outcome A} (refused n) (done a) → ⊥
+  done_refused p = let z : ◌≡◌ {A = ℕ} 0 1 = cc in omega arith
 
 pub or_false : (a b : Bool) → (a || b) ≡ false → (a ≡ false) × (b ≡ false)
 or_false true b p = (p, cc)

@@ -6,19 +6,19 @@ use mathlib.Core.List.{List, [], ◌∷◌, ◌++◌}
 use mathlib.Core.Logic.{◌↔◌, ◌⊎◌, inl, inr}
 use native.Mathlib.Omega.{arith}
 use native.Mathlib.Nat.{add-zero, add_assoc}
-use lib.Dec.{lit<, ltb}
+use lib.Dec.{ltb}
 use lib.ListN.{length, length-append}
 use borrow.Author.Tests.{ltb-true, ltb-false}
 use Rattle.bincode.specs.Read.{Read, value, refuse, bind}
-use Rattle.bincode.specs.Numbers.{Edition, fixed}
+use Rattle.bincode.specs.Numbers.{Edition}
 use Rattle.bincode.specs.Items.{after, items, counted, plain, stay, foldl}
 use Rattle.bincode.specs.Stands.{Bytes, Stands, concat_map, Each, All}
 use Rattle.bincode.specs.Codes.{Codes, NumberCodes}
-use Rattle.bincode.specs.Causes.{Cause, count_over, cause_number, Wrong, NumberWrong, Short, NotAbove, Run, stops, Counted, Causes, NumberCauses}
+use Rattle.bincode.specs.Causes.{Cause, count_over, cause_number, Wrong, NumberWrong, NotAbove, Run, stops, Counted, Causes, NumberCauses}
 use Rattle.bincode.proofs.ReadLaws.{clash}
-use Rattle.bincode.proofs.CodeLaws.{fixed_codes}
+use Rattle.bincode.proofs.CodeLaws.{eight}
 use Rattle.bincode.proofs.StandLaws.{stands_left, stands_right, stands_both}
-use Rattle.bincode.proofs.CauseLaws.{field, tested, fixed_causes}
+use Rattle.bincode.proofs.CauseLaws.{field, tested}
 
 -- a run of items stops at the first that is refused
 module _ {S A : Type 0} (s : List ℕ) (rd : S → ℕ → Read A) (next : S → A → S) (enc : A → List ℕ) (Ok : S → A → Type 0)
@@ -84,16 +84,16 @@ module _ {S A : Type 0} (s : List ℕ) (rd : S → ℕ → Read A) (next : S →
         → (why : Cause) → cause_number why ≡ cause_number count_over → Causes s (counted rd next e s limit st) (Counted e v s enc Over why (Each next Ok st) item)
     unfolding counted
     counted_causes e v codes num limit Over same why q =
-        field (codes 8 (lit< tt)) (num 8 (lit< tt)) λ n.
+        field (codes 8 eight) (num 8 eight) λ n.
         tested (ltb limit n) why 3 q (λ t. (same n).0 (ltb-true limit n t)) (λ t o. let l = ltb-false limit n t in let m = (same n).1 o in omega arith) (λ t.
         items_causes n)
 
 -- the same for items that do not depend on those before them
 module _ {A : Type 0} (s : List ℕ) (rd : ℕ → Read A) (enc : A → List ℕ) (Ok : A → Type 0) (one : Codes s rd enc Ok) where
-  pub plain_causes : (item : Wrong) → Causes s rd item → (limit : ℕ) (Over : ℕ → Type 0) → ((n : ℕ) → (limit < n) ↔ Over n) → (why : Cause)
-      → cause_number why ≡ cause_number count_over
-      → Causes s (counted (plain rd) stay fixed s limit tt) (Counted fixed Short s enc Over why (All Ok) (λ xs. item))
-  plain_causes item each = counted_causes s (plain rd) stay enc (λ u. Ok) (λ u. one) tt (λ xs. item) (λ xs h. each) fixed Short (fixed_codes s) (fixed_causes s)
+  pub plain_causes : (item : Wrong) → Causes s rd item → (e : Edition) (v : NumberWrong) → NumberCodes e s → NumberCauses e v s
+      → (limit : ℕ) (Over : ℕ → Type 0) → ((n : ℕ) → (limit < n) ↔ Over n) → (why : Cause) → cause_number why ≡ cause_number count_over
+      → Causes s (counted (plain rd) stay e s limit tt) (Counted e v s enc Over why (All Ok) (λ xs. item))
+  plain_causes item each = counted_causes s (plain rd) stay enc (λ u. Ok) (λ u. one) tt (λ xs. item) (λ xs h. each)
 
 -- A reader that keeps the least id that may follow. An id is below it exactly where one before is as high or higher.
 module _ {S A : Type 0} (next : S → A → S) (Ok : S → A → Type 0) (id_of : A → ℕ) (low : S → ℕ)

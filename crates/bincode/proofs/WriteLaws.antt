@@ -7,12 +7,12 @@ use native.Mathlib.Omega.{arith}
 use native.Mathlib.Nat.{add-zero}
 use lib.Dec.{leb}
 use mathlib.Core.Bool.{true}
-use lib.ListN.{length, drop, set, length-append}
-use lib.Seq.{sets, length-sets, drop-drop}
+use lib.ListN.{length, take, drop, set, length-append}
+use lib.Seq.{sets, length-sets, drop-drop, take_at}
 use borrow.Author.Tests.{le-leb, lt-leb, leb-true}
 use borrow.Rule.Slice.PartMut.{put_mid}
 use Rattle.std.proofs.lemmas.List.Edits.{sets-eq}
-use Rattle.bincode.specs.Numbers.{bytes_of}
+use Rattle.bincode.specs.Numbers.{Edition}
 use Rattle.bincode.specs.Stands.{concat, concat_map}
 use Rattle.bincode.specs.Writing.{written, written_to, told_size}
 
@@ -42,6 +42,12 @@ bytes_put l at n bs e h =
     let k : at + n - at ≡ n = omega arith in
     let s = sets-eq bs l at (omega arith) in
     (rw (e, h, k, s, e, drop-drop, append_assoc), rw (e, h))
+
+-- bytes stored from the first place on stand there
+pub stored_first : (l bs : List ℕ) → length bs ≤ length l → take (length bs) (sets l 0 bs) ≡ bs
+stored_first l bs h =
+    let e : 0 + length bs ≤ length l = omega arith in
+    ap (take (length bs)) (sets-eq bs l 0 e) ∙ take_at bs (drop (0 + length bs) l) (length bs) refl
 
 -- how many bytes there are, where a number of 64 bits tells it
 pub size_told : (n : ℕ) (bs : List ℕ) → n ≡ length bs → n < 2 ^ 64 → n ≡ told_size bs
@@ -74,6 +80,20 @@ all_written l at fs h =
         let g = go (sets l at f) (at + length f) fs (omega arith) in
         (rw (← r.0, ← r.1) (g.0 ∙ sym (sets_append f (concat fs) l at)), rw (← r.0, ← r.1) (g.1 ∙ omega arith))
 
+-- The count of items is written, by any edition; the items are still to be. The loop that writes them keeps `Putting`, below.
+module _ (e : Edition) {A : Type 0} (enc : A → List ℕ) (xs : List A) where
+  pub put_counted : (l : List ℕ) (at n : ℕ) → n ≡ length xs → at + length (e.bytes 8 (length xs) ++ concat_map enc xs) ≤ length l
+      → (written_to l at (e.bytes 8 n) + length (concat_map enc xs) ≤ length (written l at (e.bytes 8 n)))
+      × (sets (written l at (e.bytes 8 n)) (written_to l at (e.bytes 8 n)) (concat_map enc xs) ≡ written l at (e.bytes 8 (length xs) ++ concat_map enc xs))
+      × (written_to l at (e.bytes 8 n) + length (concat_map enc xs) ≡ written_to l at (e.bytes 8 (length xs) ++ concat_map enc xs))
+  put_counted l at n q h =
+      let a : length (e.bytes 8 n ++ concat_map enc xs) ≡ length (e.bytes 8 n) + length (concat_map enc xs) = length-append (e.bytes 8 n) (concat_map enc xs) in
+      let k : at + length (e.bytes 8 n ++ concat_map enc xs) ≤ length l = rw q h in
+      let w = has_room l at (e.bytes 8 n ++ concat_map enc xs) k in
+      let f = has_room l at (e.bytes 8 n) (omega arith) in
+      let m = length-sets l at (e.bytes 8 n) in
+      rw (← q, ← w.0, ← w.1, ← f.0, ← f.1) (omega arith, sym (sets_append (e.bytes 8 n) (concat_map enc xs) l at), omega arith)
+
 -- A loop that writes items behind their count.
 module _ {A : Type 0} (enc : A → List ℕ) (xs : List A) where
   -- what it keeps: the items left have room, and with them the buffer and the position are those wanted in the end
@@ -81,19 +101,6 @@ module _ {A : Type 0} (enc : A → List ℕ) (xs : List A) where
     pub fits : c + length (concat_map enc (drop i xs)) ≤ length buf
     pub content : sets buf c (concat_map enc (drop i xs)) ≡ target
     pub stop : c + length (concat_map enc (drop i xs)) ≡ end
-
-  -- the count is written, the items are still to be
-  pub put_counted : (l : List ℕ) (at n : ℕ) → n ≡ length xs → at + length (bytes_of 8 (length xs) ++ concat_map enc xs) ≤ length l
-      → (written_to l at (bytes_of 8 n) + length (concat_map enc xs) ≤ length (written l at (bytes_of 8 n)))
-      × (sets (written l at (bytes_of 8 n)) (written_to l at (bytes_of 8 n)) (concat_map enc xs) ≡ written l at (bytes_of 8 (length xs) ++ concat_map enc xs))
-      × (written_to l at (bytes_of 8 n) + length (concat_map enc xs) ≡ written_to l at (bytes_of 8 (length xs) ++ concat_map enc xs))
-  put_counted l at n e h =
-      let a : length (bytes_of 8 n ++ concat_map enc xs) ≡ length (bytes_of 8 n) + length (concat_map enc xs) = length-append (bytes_of 8 n) (concat_map enc xs) in
-      let k : at + length (bytes_of 8 n ++ concat_map enc xs) ≤ length l = rw e h in
-      let w = has_room l at (bytes_of 8 n ++ concat_map enc xs) k in
-      let f = has_room l at (bytes_of 8 n) (omega arith) in
-      let m = length-sets l at (bytes_of 8 n) in
-      rw (← e, ← w.0, ← w.1, ← f.0, ← f.1) (omega arith, sym (sets_append (bytes_of 8 n) (concat_map enc xs) l at), omega arith)
 
   -- a turn
   pub put_more : (target : List ℕ) (end i : ℕ) (buf : List ℕ) (c : ℕ) (x : A) → drop i xs ≡ x ∷ drop (i + 1) xs → Putting target end i buf c

@@ -1,9 +1,10 @@
--- 01, "When the engine says no", rows 2 and 3 by their cause. What is wrong is said of the bytes: which field begins at which place, by the encodings of the
+-- 01, "When the engine says no", rows 2 and 3 by their cause, and 02's row 16 (CR 5). What is wrong is said of the bytes: which field begins at which place, by the encodings of the
 -- fields before it, and what is wrong there. No reader is named, only in the claim at the end.
-use Rattle.std.specs.Prelude.{ℕ, ◌+◌, ◌-◌, ◌^◌, ◌≤◌, ◌<◌, ◌≡◌, ◌⊎◌, List, [], ◌∷◌, length}
+use Rattle.std.specs.Prelude.{ℕ, ◌+◌, ◌-◌, ◌^◌, ◌≤◌, ◌<◌, ◌≡◌, ◌⊎◌, List, [], ◌∷◌, length, take, drop, get_or}
 use Rattle.bincode.specs.Read.{Read, refuse}
-use Rattle.bincode.specs.Numbers.{Edition}
+use Rattle.bincode.specs.Numbers.{Edition, le}
 use Rattle.bincode.specs.Stands.{Bytes, Stands, concat_map}
+use Rattle.bincode.specs.Codes.{Width}
 
 pub data Cause : Type 0 where
   -- row 2: bytes cut, left over, unknown tag, ids not strictly ascending, key 0
@@ -16,8 +17,12 @@ pub data Cause : Type 0 where
   count_over : Cause
   total_over : Cause
   too_long : Cause
+  -- row 16: a marker of 254 or 255, a number that is longer than it need be, one that is too large for its field
+  no_marker : Cause
+  longer : Cause
+  too_large : Cause
 
--- the number that 01 gives to each
+-- the number that 01 gives to each, and 02 to those of row 16
 abbrev pub cause_number : Cause → ℕ
 cause_number cut = 2
 cause_number left_over = 2
@@ -27,6 +32,9 @@ cause_number key_zero = 2
 cause_number count_over = 3
 cause_number total_over = 3
 cause_number too_long = 3
+cause_number no_marker = 16
+cause_number longer = 16
+cause_number too_large = 16
 
 -- what is wrong where a value should begin: the causes at each position
 abbrev pub Wrong : Type 1
@@ -45,6 +53,21 @@ NumberWrong = List ℕ → ℕ → Wrong
 
 abbrev pub Short : NumberWrong
 Short s w at c = (length s - at < w) × (c ≡ cut)
+
+-- 02, CR 5: 251, 252 and 253 with as many bytes as each announces, and the least number that needs so many
+pub data Announces : ℕ → ℕ → ℕ → Type 0 where
+  of_two : Announces 251 2 251
+  of_four : Announces 252 4 (2 ^ 16)
+  of_eight : Announces 253 8 (2 ^ 32)
+
+-- of the variable widths: no byte is left, or a first byte of 254 or 255; where it announces others, these are not all there, or the number that they are
+-- is below the least that needs them, or it is none of w bytes
+pub data Garbled (s : List ℕ) (w at : ℕ) (c : Cause) : Type 0 where
+  no_byte : length s ≤ at → c ≡ cut → Garbled s w at c
+  beyond : at < length s → (get_or s at 0 ≡ 254) ⊎ (get_or s at 0 ≡ 255) → c ≡ no_marker → Garbled s w at c
+  broken : (n least : ℕ) → at < length s → Announces (get_or s at 0) n least → length s < at + 1 + n → c ≡ cut → Garbled s w at c
+  overlong : (n least : ℕ) → Announces (get_or s at 0) n least → at + 1 + n ≤ length s → le (take n (drop (at + 1) s)) < least → c ≡ longer → Garbled s w at c
+  wide : (n least : ℕ) → Announces (get_or s at 0) n least → at + 1 + n ≤ length s → 256 ^ w ≤ le (take n (drop (at + 1) s)) → c ≡ too_large → Garbled s w at c
 
 -- bytes are left over
 abbrev pub Left : List ℕ → Wrong
@@ -100,6 +123,6 @@ module _ {A : Type 0} where
   abbrev pub Causes : (s : List ℕ) → (ℕ → Read A) → Wrong → Type 0
   Causes s rd W = (at : ℕ) → Caused s (rd at) (W at)
 
--- of an edition's numbers, at every width
+-- of an edition's numbers, at every width up to eight bytes
 abbrev pub NumberCauses : Edition → NumberWrong → List ℕ → Type 0
-NumberCauses e v s = (w : ℕ) → 0 < w → Causes s (e.read w s) (v s w)
+NumberCauses e v s = (w : ℕ) → Width w → Causes s (e.read w s) (v s w)

@@ -1,5 +1,5 @@
 -- Reading and writing are inverse: what is claimed of every encoded value.
-use Rattle.std.specs.Prelude.{ℕ, ◌+◌, ◌^◌, ◌<◌, ◌≡◌, List, length}
+use Rattle.std.specs.Prelude.{ℕ, ◌+◌, ◌^◌, ◌≤◌, ◌<◌, ◌≡◌, List, length}
 use Rattle.bincode.specs.Read.{Read, value}
 use Rattle.bincode.specs.Numbers.{Edition}
 use Rattle.bincode.specs.Stands.{Bytes, Stands}
@@ -14,6 +14,10 @@ module _ {A : Type 0} where
     -- an encoding consists of bytes
     pub clean : (a : A) → Ok a → Bytes (enc a)
 
--- the same of an edition's numbers, at every width
+-- a width of up to eight bytes; no field of 01 or 02 has more
+abbrev pub Width : ℕ → Type 0
+Width w = (0 < w) × (w ≤ 8)
+
+-- the same of an edition's numbers, at every width up to eight bytes
 abbrev pub NumberCodes : Edition → List ℕ → Type 0
-NumberCodes e s = (w : ℕ) → 0 < w → Codes s (e.read w s) (e.bytes w) (λ x. x < 256 ^ w)
+NumberCodes e s = (w : ℕ) → Width w → Codes s (e.read w s) (e.bytes w) (λ x. x < 256 ^ w)

@@ -18,6 +18,7 @@ row_number refusal.StoreFull = 12
 row_number refusal.MapFull = 13
 row_number refusal.BadPeriod = 14
 row_number refusal.OtherEra = 15
+row_number refusal.InvalidInteger = 16
 
 -- The refusal of a number. A number that is no row's has none, and no call and no reader refuses with one (refusals/proofs/RowsOnly).
 abbrev pub row : ℕ → Refusal
@@ -34,4 +35,5 @@ row n =
     (cond (eqb n 12) refusal.StoreFull
     (cond (eqb n 13) refusal.MapFull
     (cond (eqb n 14) refusal.BadPeriod
-    (cond (eqb n 15) refusal.OtherEra refusal.Malformed))))))))))))
+    (cond (eqb n 15) refusal.OtherEra
+    (cond (eqb n 16) refusal.InvalidInteger refusal.Malformed)))))))))))))

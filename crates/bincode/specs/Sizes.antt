@@ -20,7 +20,9 @@ pub record Sizes : Type 0 where
   pub due : ℕ
   -- bytes lent for a join plan
   pub plan : ℕ
+  -- 02, CR 5: bytes lent for a join plan in the variable-width edition
+  pub variable_plan : ℕ
 
--- the sizes of 01
+-- the sizes of 01 and 02
 abbrev pub base : Sizes
-base = record { nodes = 16; rows = 24; user = 4096; items = 1024; batch = 65536; store = 128; faults = 1024; due = 1025; plan = 448 }
+base = record { nodes = 16; rows = 24; user = 4096; items = 1024; batch = 65536; store = 128; faults = 1024; due = 1025; plan = 448; variable_plan = 491 }

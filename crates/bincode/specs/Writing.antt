@@ -16,5 +16,8 @@ unfoldable pub written_to : List ℕ → ℕ → List ℕ → ℕ
 written_to l at bs = cond (has_room (length l) at (length bs)) (at + length bs) at
 
 -- how many bytes there are, as far as a number of 64 bits tells it; no memory has more
+abbrev pub told : ℕ → ℕ
+told n = min n (2 ^ 64 - 1)
+
 abbrev pub told_size : List ℕ → ℕ
-told_size bs = min (length bs) (2 ^ 64 - 1)
+told_size bs = told (length bs)

@@ -1,4 +1,4 @@
-// Numbers of bincode's default encoding, and what every reader and writer above is made of.
+// bincode's encodings, and what every reader and writer above is made of.
 #![tactic(auto)]
 
 ghost use Rattle.std.specs.Prelude.{◌≡◌, ℕ, ◌+◌, ◌≤◌, List, [], ◌∷◌, length};
@@ -10,6 +10,9 @@ ghost use Rattle.bincode.specs.Stands.{concat};
 ghost use Rattle.bincode.specs.Writing.{has_room, written, written_to, told_size};
 ghost use Rattle.bincode.specs.Answer.{answer_as_read, answer, bytes_at, all_read};
 
+mod int;
+
+pub use int::{FixintEncoding, IntEncoding, VarintEncoding};
 use std::fmt;
 
 // 01, "When the engine says no": what each row of the table is called. A row that no call answers (6) has no name.
@@ -29,6 +32,7 @@ pub enum Refusal {
     MapFull,
     BadPeriod,
     OtherEra,
+    InvalidInteger,
 }
 
 // The number of the row.
@@ -51,6 +55,7 @@ impl From<Refusal> for u8 {
             Refusal::MapFull => 13,
             Refusal::BadPeriod => 14,
             Refusal::OtherEra => 15,
+            Refusal::InvalidInteger => 16,
         }
     }
 }
@@ -98,13 +103,11 @@ pub fn read_u64(s: &[u8], at: usize) -> Result<(u64, usize), Refusal>
 }
 
 // A count of at most `limit`, as it stands in front of as many items: row 2 where it is cut, row 3 over the limit.
-#[tactic(auto, using(crate::proofs::NumberLaws::read_refused), unfolding(crate::specs::Items::read_count))]
-pub fn read_count(s: &[u8], at: usize, limit: u64) -> Result<(u64, usize), Refusal>
-    ensures { result ≡ answer (λ (n : ℕ). n) (read_count fixed s.now limit at) }
+#[tactic(auto, unfolding(crate::specs::Items::read_count))]
+pub fn read_count<E: IntEncoding>(s: &[u8], at: usize, limit: u64) -> Result<(u64, usize), Refusal>
+    ensures { result ≡ answer (λ (n : ℕ). n) (read_count E.edition s.now limit at) }
 {
-    let Ok((n, c)) = read_u64(s, at) else {
-        return Err(Refusal::Malformed);
-    };
+    let (n, c) = E::read_u64(s, at)?;
     if limit < n {
         return Err(Refusal::TooLarge);
     }
@@ -148,8 +151,8 @@ pub fn all_read<T: Copy>(s: &[u8], read: Result<(T, usize), Refusal>) -> Result<
     }
 }
 
-// What can be read from bytes: what is read, and how code holds it.
-pub trait Decoded: Copy {
+// What can be read from bytes, with the numbers of an edition: what is read, and how code holds it.
+pub trait Decoded<E: IntEncoding>: Copy {
     ghost Value: { Type 0 };
 
     ghost held: { Value → Self };
@@ -161,80 +164,89 @@ pub trait Decoded: Copy {
         ensures { result ≡ answer held (read_at s.now at) };
 }
 
-impl Decoded for u32 {
+impl<E: IntEncoding> Decoded<E> for u32 {
     ghost Value = { ℕ };
 
     ghost held = { λ x. x };
 
-    ghost read_at = { read_num 4 };
+    ghost read_at = { E.edition.read 4 };
 
     fn read(s: &[u8], at: usize) -> Result<(Self, usize), Refusal> {
-        read_u32(s, at)
+        E::read_u32(s, at)
     }
 }
 
-impl Decoded for u64 {
+impl<E: IntEncoding> Decoded<E> for u64 {
     ghost Value = { ℕ };
 
     ghost held = { λ x. x };
 
-    ghost read_at = { read_num 8 };
+    ghost read_at = { E.edition.read 8 };
 
     fn read(s: &[u8], at: usize) -> Result<(Self, usize), Refusal> {
-        read_u64(s, at)
+        E::read_u64(s, at)
     }
 }
 
 // A value that is a whole input: nothing may be left over.
 #[tactic(auto, using(crate::proofs::AnswerLaws::all_read_whole))]
-pub fn read_whole<T: Decoded>(s: &[u8]) -> Result<(T, usize), Refusal>
+pub fn read_whole<E: IntEncoding, T: Decoded<E>>(s: &[u8]) -> Result<(T, usize), Refusal>
     ensures { result ≡ answer T.held (whole (T.read_at s.now) s.now) }
 {
     all_read(s, T::read(s, 0))
 }
 
-// What is written as bytes, one after the other.
-pub trait Encoded: Copy {
+// What is written as bytes, one after the other, with the numbers of an edition.
+pub trait Encoded<E: IntEncoding>: Copy {
     ghost bytes: { Self → List ℕ };
+
+    // No value takes more bytes.
+    ghost longest: { ℕ };
 
     // How many bytes the value takes, as far as a `usize` tells it.
     fn size(&self) -> usize
-        ensures { result ≡ told_size (bytes self.now) };
+        ensures { (result ≡ told_size (bytes self.now)) × (result ≤ longest) };
 
     // The position behind the value, or `at` where it has no room; then nothing is written.
     fn write(&self, buf: &mut [u8], at: usize) -> usize
         ensures { (buf.new ≡ written buf.old at (bytes self.now)) × (result ≡ written_to buf.old at (bytes self.now)) };
 }
 
-impl Encoded for u32 {
-    ghost bytes = { bytes_of 4 };
+impl<E: IntEncoding> Encoded<E> for u32 {
+    ghost bytes = { E.edition.bytes 4 };
 
-    #[tactic(auto, using(crate::proofs::NumberLaws::length_bytes_of))]
+    ghost longest = { E.longest 4 };
+
+    #[tactic(auto, using(crate::proofs::WriteLaws::size_told))]
     fn size(&self) -> usize {
-        4
+        E::size_u32(*self)
     }
 
     fn write(&self, buf: &mut [u8], at: usize) -> usize {
-        write_u32(buf, at, *self)
+        E::write_u32(buf, at, *self)
     }
 }
 
-impl Encoded for u64 {
-    ghost bytes = { bytes_of 8 };
+impl<E: IntEncoding> Encoded<E> for u64 {
+    ghost bytes = { E.edition.bytes 8 };
 
-    #[tactic(auto, using(crate::proofs::NumberLaws::length_bytes_of))]
+    ghost longest = { E.longest 8 };
+
+    #[tactic(auto, using(crate::proofs::WriteLaws::size_told))]
     fn size(&self) -> usize {
-        8
+        E::size_u64(*self)
     }
 
     fn write(&self, buf: &mut [u8], at: usize) -> usize {
-        write_u64(buf, at, *self)
+        E::write_u64(buf, at, *self)
     }
 }
 
 // Values one behind the other, as a tag and what it is of; or `at` where they have no room, and then nothing is written.
-impl<A: Encoded, B: Encoded> Encoded for (A, B) {
+impl<E: IntEncoding, A: Encoded<E>, B: Encoded<E>> Encoded<E> for (A, B) {
     ghost bytes = { λ x. concat (A.bytes x.0 ∷ B.bytes x.1 ∷ []) };
+
+    ghost longest = { A.longest + B.longest };
 
     fn size(&self) -> usize {
         self.0.size().saturating_add(self.1.size())
@@ -242,7 +254,7 @@ impl<A: Encoded, B: Encoded> Encoded for (A, B) {
 
     #[tactic(auto, unfolding(crate::specs::Writing::written, crate::specs::Writing::written_to))]
     fn write(&self, buf: &mut [u8], at: usize) -> usize {
-        if room(buf.len(), at, self.size()) {
+        if room(buf.len(), at, Encoded::<E>::size(self)) {
             let c = self.0.write(buf, at);
             self.1.write(buf, c)
         } else {
@@ -251,26 +263,31 @@ impl<A: Encoded, B: Encoded> Encoded for (A, B) {
     }
 }
 
-impl<A: Encoded, B: Encoded, C: Encoded> Encoded for (A, B, C) {
+impl<E: IntEncoding, A: Encoded<E>, B: Encoded<E>, C: Encoded<E>> Encoded<E> for (A, B, C) {
     ghost bytes = { λ x. concat (A.bytes x.0 ∷ B.bytes x.1 ∷ C.bytes x.2 ∷ []) };
 
+    ghost longest = { A.longest + (B.longest + C.longest) };
+
     fn size(&self) -> usize {
-        (self.0, (self.1, self.2)).size()
+        Encoded::<E>::size(&(self.0, (self.1, self.2)))
     }
 
     fn write(&self, buf: &mut [u8], at: usize) -> usize {
-        (self.0, (self.1, self.2)).write(buf, at)
+        Encoded::<E>::write(&(self.0, (self.1, self.2)), buf, at)
     }
 }
 
-impl<A: Encoded, B: Encoded, C: Encoded, D: Encoded> Encoded for (A, B, C, D) {
+impl<E: IntEncoding, A: Encoded<E>, B: Encoded<E>, C: Encoded<E>, D: Encoded<E>> Encoded<E>
+    for (A, B, C, D) {
     ghost bytes = { λ x. concat (A.bytes x.0 ∷ B.bytes x.1 ∷ C.bytes x.2 ∷ D.bytes x.3 ∷ []) };
 
+    ghost longest = { A.longest + (B.longest + (C.longest + D.longest)) };
+
     fn size(&self) -> usize {
-        (self.0, (self.1, self.2, self.3)).size()
+        Encoded::<E>::size(&(self.0, (self.1, self.2, self.3)))
     }
 
     fn write(&self, buf: &mut [u8], at: usize) -> usize {
-        (self.0, (self.1, self.2, self.3)).write(buf, at)
+        Encoded::<E>::write(&(self.0, (self.1, self.2, self.3)), buf, at)
     }
 }

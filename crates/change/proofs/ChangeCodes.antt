@@ -10,7 +10,7 @@ use Rattle.bincode.specs.Numbers.{Edition}
 use Rattle.bincode.specs.Sizes.{Sizes}
 use Rattle.bincode.specs.Stands.{concat}
 use Rattle.bincode.specs.Codes.{Codes, NumberCodes}
-use Rattle.bincode.proofs.CodeLaws.{field, ended, choose, none as unknown, restate, recode, one_field}
+use Rattle.bincode.proofs.CodeLaws.{four, field, ended, choose, none as unknown, restate, recode, one_field}
 use Rattle.pub_key_map.specs.declared.Node.{Node}
 use Rattle.pub_key_map.specs.PubKeyMap.{map_bytes}
 use Rattle.pub_key_map.proofs.MapCodes.{map_codes}
@@ -103,7 +103,7 @@ module _ (e : Edition) (s : List ℕ) (num : NumberCodes e s) (z : Sizes) (fits 
   change_codes =
       recode (λ c o. tag_behind e c)
       (restate (λ c o. o.1.1) (λ c o. let t = tag_below c in (tt, (omega arith, o)))
-      (field {H = λ c. Unit {0}} tag_of (num 4 (lit< tt)) λ t.
+      (field {H = λ c. Unit {0}} tag_of (num 4 four) λ t.
       choose t 0 (one_field tag_of (behind_tag e) (ChangeOk z) 0 node_change nodes_in is_node_change (λ ns. (refl, refl, refl)) (map_codes e s num z fits) t) λ n0.
       choose t 1 (one_field tag_of (behind_tag e) (ChangeOk z) 1 encryption_schedule schedule_in is_schedule (λ x. (refl, refl, refl)) (schedule_codes e s num) t) λ n1.
       unknown 2 (λ c o. let b = tag_below c in let i = o.0.1 in omega arith)))
@@ -119,7 +119,7 @@ module _ (e : Edition) (s : List ℕ) (num : NumberCodes e s) (z : Sizes) (fits 
   state_codes =
       recode (λ x o. progress_behind e x)
       (restate (λ x o. o.1.1) (λ x o. let t = progress_below x in (tt, (omega arith, o)))
-      (field {H = λ x. Unit {0}} progress_of (num 4 (lit< tt)) λ t.
+      (field {H = λ x. Unit {0}} progress_of (num 4 four) λ t.
       choose t 0 (none_codes t) λ n0.
       choose t 1 (one_field progress_of (behind_progress e) (StateOk z) 1 in_progress change_in is_in_progress (λ c. (refl, refl, refl)) change_codes t) λ n1.
       choose t 2 (one_field progress_of (behind_progress e) (StateOk z) 2 complete change_in is_complete (λ c. (refl, refl, refl)) change_codes t) λ n2.

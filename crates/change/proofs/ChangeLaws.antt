@@ -1,50 +1,16 @@
--- Laws of changes and their states: the length in bytes, equality, that the value that holds one stands for it.
+-- Laws of changes and their states: equality, that the value that holds one stands for it.
 -- Assumes nothing.
-use Prim.Native.Nat.{ℕ, ◌+◌}
 use mathlib.Core.Path.{◌≡◌, refl, ap}
-use mathlib.Core.List.{List, [], ◌∷◌}
 use mathlib.Core.Bool.{true}
-use native.Mathlib.Omega.{arith}
-use lib.ListN.{length, length-append}
 use Rattle.lists.proofs.ListLaws.{false_true, take_padded}
-use Rattle.bincode.specs.Numbers.{fixed, bytes_of}
-use Rattle.bincode.specs.Stands.{concat}
 use Rattle.bincode.specs.Sizes.{base}
-use Rattle.bincode.proofs.NumberLaws.{length_bytes_of}
-use Rattle.pub_key_map.specs.PubKeyMap.{no_node, map_bytes}
+use Rattle.pub_key_map.specs.PubKeyMap.{no_node}
 use Rattle.pub_key_map.proofs.MapLaws.{map_true, map_refl, map_eq}
-use Rattle.honey_badger.specs.EncryptionSchedule.{schedule_bytes}
 use Rattle.honey_badger.proofs.ScheduleLaws.{schedule_true, schedule_refl, schedule_eq}
 use Rattle.change.specs.declared.Change.{Change}
 use Rattle.change.specs.declared.Change.TheVariants.{NodeChange, EncryptionSchedule as ScheduleChange}
 use Rattle.change.specs.contracts.ChangePartialEq.TheImpl.{eq-value}
-use Rattle.change.specs.Change.{ChangeOf, node_change, encryption_schedule, ChangeStateOf, none, in_progress, complete, change_of, change_held, state_of, state_held, same_change, change_bytes, state_bytes}
-
--- how many bytes a tag takes with what stands behind it
-pub length_tagged : (t : ℕ) (bs : List ℕ) → length (concat (bytes_of 4 t ∷ bs ∷ [])) ≡ 4 + length bs
-length_tagged t bs = simp (length-append, length_bytes_of) (omega arith)
-
--- how many bytes stand behind a change's tag
-abbrev pub change_length : ChangeOf → ℕ
-change_length (node_change ns) = length (map_bytes fixed ns)
-change_length (encryption_schedule x) = length (schedule_bytes fixed x)
-
-pub length_change : (c : ChangeOf) → length (change_bytes fixed c) ≡ 4 + change_length c
-unfolding change_bytes
-length_change (node_change ns) = length_tagged 0 (map_bytes fixed ns)
-length_change (encryption_schedule x) = length_tagged 1 (schedule_bytes fixed x)
-
--- how many bytes stand behind a state's tag
-abbrev pub state_length : ChangeStateOf → ℕ
-state_length none = 0
-state_length (in_progress c) = length (change_bytes fixed c)
-state_length (complete c) = length (change_bytes fixed c)
-
-pub length_state : (x : ChangeStateOf) → length (state_bytes fixed x) ≡ 4 + state_length x
-unfolding state_bytes
-length_state none = simp (length-append, length_bytes_of)
-length_state (in_progress c) = length_tagged 1 (change_bytes fixed c)
-length_state (complete c) = length_tagged 2 (change_bytes fixed c)
+use Rattle.change.specs.Change.{ChangeOf, node_change, encryption_schedule, ChangeStateOf, none, in_progress, complete, change_of, change_held, state_of, state_held, same_change}
 
 -- equality of changes is equality
 pub change_true : (a b : ChangeOf) → same_change a b ≡ true → a ≡ b

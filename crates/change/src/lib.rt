@@ -1,16 +1,15 @@
 // change.rs: a change of the network, and how far it has come.
 #![tactic(auto)]
 
-ghost use Rattle.std.specs.Prelude.{◌≡◌, [], ◌∷◌, ◌+◌, ◌*◌, ◌≤◌, length};
-ghost use Rattle.bincode.specs.Numbers.{fixed, bytes_of};
+ghost use Rattle.std.specs.Prelude.{◌≡◌, ◌+◌, max};
+ghost use Rattle.bincode.specs.Numbers.{fixed};
 ghost use Rattle.bincode.specs.Answer.{step_of};
-ghost use Rattle.bincode.specs.Stands.{concat};
 ghost use Rattle.bincode.specs.Sizes.{base};
 ghost use Rattle.pub_key_map.specs.PubKeyMap.{nodes_of};
 ghost use Rattle.change.specs.Change.{ChangeOf, ChangeStateOf, node_change, encryption_schedule, none, in_progress, complete, change_of, change_held};
 ghost use Rattle.change.specs.Change.{state_of, state_held, read_change, change_bytes, read_state, state_bytes};
 
-use bincode::{Decoded, Encoded, Refusal};
+use bincode::{Decoded, Encoded, FixintEncoding, IntEncoding, Refusal};
 use honey_badger::EncryptionSchedule;
 use pub_key_map::PubKeyMap;
 
@@ -74,32 +73,30 @@ pub fn check_change(s: &[u8], at: usize) -> Result<usize, Refusal>
     match tag {
         0 => pub_key_map::check_map(s, c),
         1 => {
-            let (_, d) = EncryptionSchedule::read(s, c)?;
+            let (_, d) = <EncryptionSchedule as Decoded<FixintEncoding>>::read(s, c)?;
             Ok(d)
         }
         _ => Err(Refusal::Malformed),
     }
 }
 
-impl Decoded for Change {
+impl<E: IntEncoding> Decoded<E> for Change {
     ghost Value = { ChangeOf };
 
     ghost held = { change_held };
 
-    ghost read_at = { read_change fixed base };
+    ghost read_at = { read_change E.edition base };
 
-    #[tactic(auto, using(bincode::proofs::NumberLaws::read_refused), unfolding(crate::specs::Change::read_change))]
+    #[tactic(auto, unfolding(crate::specs::Change::read_change))]
     fn read(s: &[u8], at: usize) -> Result<(Self, usize), Refusal> {
-        let Ok((tag, c)) = bincode::read_u32(s, at) else {
-            return Err(Refusal::Malformed);
-        };
+        let (tag, c) = E::read_u32(s, at)?;
         match tag {
             0 => {
-                let (map, d) = PubKeyMap::read(s, c)?;
+                let (map, d) = <PubKeyMap as Decoded<E>>::read(s, c)?;
                 Ok((Change::NodeChange(map), d))
             }
             1 => {
-                let (x, d) = EncryptionSchedule::read(s, c)?;
+                let (x, d) = <EncryptionSchedule as Decoded<E>>::read(s, c)?;
                 Ok((Change::EncryptionSchedule(x), d))
             }
             _ => Err(Refusal::Malformed),
@@ -107,26 +104,24 @@ impl Decoded for Change {
     }
 }
 
-impl Decoded for ChangeState {
+impl<E: IntEncoding> Decoded<E> for ChangeState {
     ghost Value = { ChangeStateOf };
 
     ghost held = { state_held };
 
-    ghost read_at = { read_state fixed base };
+    ghost read_at = { read_state E.edition base };
 
-    #[tactic(auto, using(bincode::proofs::NumberLaws::read_refused), unfolding(crate::specs::Change::read_state))]
+    #[tactic(auto, unfolding(crate::specs::Change::read_state))]
     fn read(s: &[u8], at: usize) -> Result<(Self, usize), Refusal> {
-        let Ok((tag, c)) = bincode::read_u32(s, at) else {
-            return Err(Refusal::Malformed);
-        };
+        let (tag, c) = E::read_u32(s, at)?;
         match tag {
             0 => Ok((ChangeState::None, c)),
             1 => {
-                let (change, d) = Change::read(s, c)?;
+                let (change, d) = <Change as Decoded<E>>::read(s, c)?;
                 Ok((ChangeState::InProgress(change), d))
             }
             2 => {
-                let (change, d) = Change::read(s, c)?;
+                let (change, d) = <Change as Decoded<E>>::read(s, c)?;
                 Ok((ChangeState::Complete(change), d))
             }
             _ => Err(Refusal::Malformed),
@@ -134,59 +129,48 @@ impl Decoded for ChangeState {
     }
 }
 
-// How many bytes a change takes.
-#[tactic(auto, using(crate::proofs::ChangeLaws::length_change))]
-pub fn change_size(c: Change) -> usize
-    ensures { (result ≡ length (change_bytes fixed (change_of c))) × (result ≤ 12 + 12 * base.nodes) }
-{
-    match c {
-        Change::NodeChange(map) => 4 + pub_key_map::map_size(map),
-        Change::EncryptionSchedule(x) => 4 + honey_badger::schedule_size(x),
-    }
-}
+impl<E: IntEncoding> Encoded<E> for Change {
+    ghost bytes = { λ c. change_bytes E.edition (change_of c) };
 
-impl Encoded for Change {
-    ghost bytes = { λ c. change_bytes fixed (change_of c) };
+    ghost longest = { E.longest 4 + max ⟦<PubKeyMap as Encoded<E>>⟧.longest ⟦<EncryptionSchedule as Encoded<E>>⟧.longest };
 
-    #[tactic(auto, using(bincode::proofs::WriteLaws::size_told))]
+    #[tactic(auto, unfolding(crate::specs::Change::change_bytes))]
     fn size(&self) -> usize {
-        change_size(*self)
+        match *self {
+            Change::NodeChange(map) => Encoded::<E>::size(&(0u32, map)),
+            Change::EncryptionSchedule(x) => Encoded::<E>::size(&(1u32, x)),
+        }
     }
 
     #[tactic(auto, unfolding(crate::specs::Change::change_bytes))]
     fn write(&self, buf: &mut [u8], at: usize) -> usize {
         match *self {
-            Change::NodeChange(map) => (0u32, map).write(buf, at),
-            Change::EncryptionSchedule(x) => (1u32, x).write(buf, at),
+            Change::NodeChange(map) => Encoded::<E>::write(&(0u32, map), buf, at),
+            Change::EncryptionSchedule(x) => Encoded::<E>::write(&(1u32, x), buf, at),
         }
     }
 }
 
-// How many bytes a change state takes.
-#[tactic(auto, using(crate::proofs::ChangeLaws::length_state))]
-pub fn state_size(x: ChangeState) -> usize
-    ensures { (result ≡ length (state_bytes fixed (state_of x))) × (result ≤ 16 + 12 * base.nodes) }
-{
-    match x {
-        ChangeState::None => 4,
-        ChangeState::InProgress(change) | ChangeState::Complete(change) => 4 + change_size(change),
-    }
-}
+impl<E: IntEncoding> Encoded<E> for ChangeState {
+    ghost bytes = { λ x. state_bytes E.edition (state_of x) };
 
-impl Encoded for ChangeState {
-    ghost bytes = { λ x. state_bytes fixed (state_of x) };
+    ghost longest = { E.longest 4 + ⟦<Change as Encoded<E>>⟧.longest };
 
-    #[tactic(auto, using(bincode::proofs::WriteLaws::size_told))]
+    #[tactic(auto, unfolding(crate::specs::Change::state_bytes))]
     fn size(&self) -> usize {
-        state_size(*self)
+        match *self {
+            ChangeState::None => E::size_u32(0),
+            ChangeState::InProgress(change) => Encoded::<E>::size(&(1u32, change)),
+            ChangeState::Complete(change) => Encoded::<E>::size(&(2u32, change)),
+        }
     }
 
     #[tactic(auto, unfolding(crate::specs::Change::state_bytes))]
     fn write(&self, buf: &mut [u8], at: usize) -> usize {
         match *self {
-            ChangeState::None => bincode::write_u32(buf, at, 0),
-            ChangeState::InProgress(change) => (1u32, change).write(buf, at),
-            ChangeState::Complete(change) => (2u32, change).write(buf, at),
+            ChangeState::None => E::write_u32(buf, at, 0),
+            ChangeState::InProgress(change) => Encoded::<E>::write(&(1u32, change), buf, at),
+            ChangeState::Complete(change) => Encoded::<E>::write(&(2u32, change), buf, at),
         }
     }
 }

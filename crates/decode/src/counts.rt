@@ -1,7 +1,7 @@
 // Answers that are worked out and not only read: the number of faulty nodes, the winner of votes, and how far a key generation is.
 use crate::text::{Failure, Hex};
 use crate::values::encoded;
-use bincode::{Decoded, Refusal};
+use bincode::{Decoded, FixintEncoding, Refusal};
 use key_gen::{KeyGen, Proposal};
 use pub_key_map::PubKeyMap;
 use vote_counter::VoteCounter;
@@ -12,7 +12,7 @@ const ROW: usize = PubKeyMap::LIMIT + 1;
 
 // Eight bytes of a number of nodes: how many of them may be faulty.
 pub(crate) fn faulty(b: &[u8], out: &mut String) -> Result<(), Failure> {
-    let Ok((n, _)) = bincode::read_whole::<u64>(b) else {
+    let Ok((n, _)) = bincode::read_whole::<FixintEncoding, u64>(b) else {
         return Err(Failure::BadLine);
     };
     writeln!(out, "ok {}", util::max_faulty(n as usize))?;
@@ -37,7 +37,7 @@ fn commit_votes(map: PubKeyMap, b: &[u8], from: usize) -> Result<VoteCounter, Re
 
 // A map, and signed votes behind it: the change that wins in era 0, or none.
 pub(crate) fn winner(b: &[u8], out: &mut String) -> Result<(), Failure> {
-    let (map, at) = PubKeyMap::read(b, 0)?;
+    let (map, at) = <PubKeyMap as Decoded<FixintEncoding>>::read(b, 0)?;
     let counter = commit_votes(map, b, at)?;
     let committed = counter.committed;
     match counter.compute_winner().and_then(|i| committed.votes.at(i)) {
@@ -74,7 +74,7 @@ fn yes_or_no(yes: bool) -> &'static str {
 
 // A map, and behind it just one row of flags, 0 or 1, for each of its nodes: how many parts are complete, and whether that is enough for a key and for the group.
 pub(crate) fn complete(b: &[u8], out: &mut String) -> Result<(), Failure> {
-    let (map, at) = PubKeyMap::read(b, 0)?;
+    let (map, at) = <PubKeyMap as Decoded<FixintEncoding>>::read(b, 0)?;
     let rows = b.get(at..).unwrap_or(b"");
     if rows.len() != ROW * map.len() || rows.iter().any(|x| 1 < *x) {
         return Err(Failure::BadLine);

@@ -32,6 +32,8 @@ fn dispatch(kind: &str, b: &[u8], out: &mut String) -> Result<(), Failure> {
         "signed-key-gen" => again::<SignedKeyGenMsg>(b, out),
         "message" => again::<Message>(b, out),
         "plan" => again::<JoinPlan>(b, out),
+        "plan-new" => values::plan_new(b, out),
+        "plan-old" => values::plan_old(b, out),
         "batch" => values::batch(b, out),
         "user" => values::user(b, out),
         "max-faulty" => counts::faulty(b, out),

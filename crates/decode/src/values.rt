@@ -1,8 +1,9 @@
 // Values read and written again: `ok` with the bytes, or the refusal's number. A map and a vote are shown in words too.
 use crate::text::{Failure, Hex};
-use bincode::{Decoded, Encoded};
+use bincode::{Decoded, Encoded, FixintEncoding};
 use change::Change;
 use honey_badger::EncryptionSchedule;
+use join_plan::JoinPlan;
 use pub_key_map::PubKeyMap;
 use std::alloc::{AllocError, Global};
 use std::fmt;
@@ -56,33 +57,54 @@ impl fmt::Display for ChangeText {
 }
 
 // The bytes of a value.
-pub(crate) fn encoded<T: Encoded>(alloc: Global, value: T) -> Result<Vec<u8>, AllocError> {
+pub(crate) fn encoded<T: Encoded<FixintEncoding>>(
+    alloc: Global,
+    value: T,
+) -> Result<Vec<u8>, AllocError> {
     let mut bytes = vec![in alloc; 0u8; value.size()]?;
     value.write(&mut bytes, 0);
     Ok(bytes)
 }
 
 // The value that the whole input is, written again.
-pub(crate) fn again<T: Decoded + Encoded>(b: &[u8], out: &mut String) -> Result<(), Failure> {
-    let (value, _) = bincode::read_whole::<T>(b)?;
+pub(crate) fn again<T: Decoded<FixintEncoding> + Encoded<FixintEncoding>>(
+    b: &[u8],
+    out: &mut String,
+) -> Result<(), Failure> {
+    let (value, _) = bincode::read_whole::<FixintEncoding, T>(b)?;
     let bytes = encoded(*out.allocator(), value)?;
     writeln!(out, "ok {}", Hex(&bytes))?;
     Ok(())
 }
 
 pub(crate) fn map(b: &[u8], out: &mut String) -> Result<(), Failure> {
-    let (map, _) = bincode::read_whole::<PubKeyMap>(b)?;
+    let (map, _) = bincode::read_whole::<FixintEncoding, PubKeyMap>(b)?;
     let bytes = encoded(*out.allocator(), map)?;
     writeln!(out, "ok {} {}", Hex(&bytes), NodesText(map))?;
     Ok(())
 }
 
 pub(crate) fn vote(b: &[u8], out: &mut String) -> Result<(), Failure> {
-    let (vote, _) = bincode::read_whole::<Vote>(b)?;
+    let (vote, _) = bincode::read_whole::<FixintEncoding, Vote>(b)?;
     let bytes = encoded(*out.allocator(), vote)?;
     let Vote { change, era, num } = vote;
     let bytes = Hex(&bytes);
     writeln!(out, "ok {bytes} era {era} num {num} {}", ChangeText(change))?;
+    Ok(())
+}
+
+// A plan of the old edition in the new one, and back.
+pub(crate) fn plan_new(b: &[u8], out: &mut String) -> Result<(), Failure> {
+    let mut buf = [0u8; JoinPlan::VARINT_BYTES];
+    let n = join_plan::to_variable(b, &mut buf)?;
+    writeln!(out, "ok {}", Hex(buf.get(..n).unwrap_or(&buf)))?;
+    Ok(())
+}
+
+pub(crate) fn plan_old(b: &[u8], out: &mut String) -> Result<(), Failure> {
+    let mut buf = [0u8; JoinPlan::BYTES];
+    let n = join_plan::to_fixed(b, &mut buf)?;
+    writeln!(out, "ok {}", Hex(buf.get(..n).unwrap_or(&buf)))?;
     Ok(())
 }
 

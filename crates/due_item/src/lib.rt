@@ -8,7 +8,7 @@ ghost use Rattle.dynamic_honey_badger.specs.State.{state_of};
 ghost use Rattle.dynamic_honey_badger.specs.Received.{handled_of, MessageRefusedKeeps, returned};
 ghost use Rattle.due_item.specs.Fate.{FatedFor};
 
-use bincode::Refusal;
+use bincode::{FixintEncoding, Refusal};
 use dynamic_honey_badger::{DynamicHoneyBadger, Handled};
 use key_gen_message::SignedKeyGenMsg;
 use message::Message;
@@ -32,7 +32,7 @@ fn fate(
     if tag != 1 {
         return Err(Refusal::Malformed);
     }
-    let (read, _) = bincode::read_whole::<Message>(message)?;
+    let (read, _) = bincode::read_whole::<FixintEncoding, Message>(message)?;
     let Message::KeyGen(made_in, message, sig) = read else {
         return Err(Refusal::Malformed); // a vote, which has another tag
     };

@@ -4,7 +4,6 @@ use borrow.Author.Tests.{le-leb, lt-leb}
 use mathlib.Core.Bool.{Bool, true, false}
 use mathlib.Core.List.{List, [], ◌∷◌, ◌++◌}
 use mathlib.Core.Path.{◌≡◌, refl, sym, ap, ◌∙◌}
-use native.Mathlib.Omega.{arith}
 use Prim.Native.Nat.{ℕ, ◌+◌, ◌≤◌, ◌<◌}
 use lib.Dec.{leb}
 use Rattle.std.specs.declared.result.Result.{Result}
@@ -12,10 +11,9 @@ use Rattle.std.specs.declared.result.Result.TheVariants.{Ok, Err}
 use lib.ListN.{length}
 use Rattle.lists.specs.Lists.{Found, found, nothing}
 use Rattle.bincode.specs.Outcome.{done, refused}
-use Rattle.bincode.specs.Rows.{row_number}
 use Rattle.bincode.specs.Sizes.{Sizes, base}
 use Rattle.bincode.specs.declared.Refusal.{Refusal}
-use Rattle.bincode.proofs.ReadLaws.{cross}
+use Rattle.bincode.proofs.ReadLaws.{cross, done_refused}
 use Rattle.pub_key_map.specs.declared.Node.{Node}
 use Rattle.fault_log.specs.declared.FaultKind.TheVariants.{InvalidKeyGenMessageSignature, UnexpectedKeyGenMessage, TooManyKeyGenMessages}
 use Rattle.vote_counter.specs.declared.VoteOutcome.{VoteOutcome}
@@ -36,9 +34,6 @@ pub full_by_count : (x : MessageStore) (n : ℕ) → n ≡ length (store_of x) �
 unfolding row12
 full_by_count x n e = ap (leb base.store) (sym e)
 
-refused_not_done : (n : ℕ) (ms : List SignedKeyGenMsgOf) → refused n ≡ done ms → ⊥
-refused_not_done n ms e = let w : ◌≡◌ {A = ℕ} 0 1 = cc in omega arith
-
 module _ (z : Sizes) (ms : List SignedKeyGenMsgOf) (m : SignedKeyGenMsgOf) where
   -- a full store refuses
   pub full_refuses : row12 z ms ≡ true → pushed z ms m ≡ refused 12
@@ -52,7 +47,7 @@ module _ (z : Sizes) (ms : List SignedKeyGenMsgOf) (m : SignedKeyGenMsgOf) where
   -- one with room stores
   pub push_stored : row12 z ms ≡ false → (o : Result Unit Refusal) (x : MessageStore) → pushed_of (record { store = x; outcome = o }) ≡ pushed z ms m → pushed z ms m ≡ done (store_of x)
   push_stored r (Ok u) x e = sym e
-  push_stored r (Err n) x e = absurd (refused_not_done (row_number n) (ms ++ (m ∷ [])) (e ∙ room_stores r))
+  push_stored r (Err n) x e = absurd (done_refused (e ∙ room_stores r))
 
 -- adding a vote tells of its message, and never refuses it
 pub added_tells : (o : VoteOutcome) → said_handling (added_as o) ≡ vote_effect (said_outcome o)

@@ -19,7 +19,7 @@ ghost use Rattle.dynamic_honey_badger.specs.Received.{handled_of, MessageRefused
 ghost use Rattle.dynamic_honey_badger.specs.Parts.{WantedFor, CastFor, UncastKeeps, added_as, JudgedKey, JudgedContent, JudgedRead};
 ghost use Rattle.dynamic_honey_badger.specs.Asked.{next_epoch, epoch_in, said_next, some_by, should_propose, last_report, said_last, board_at};
 
-use bincode::Refusal;
+use bincode::{FixintEncoding, Refusal};
 use board::Standing;
 use change::{Change, ChangeState};
 use fault_log::FaultKind;
@@ -130,7 +130,7 @@ fn map_in_progress(change: ChangeState) -> Option<PubKeyMap>
 fn wanted_from(map: PubKeyMap, our_id: u32, bytes: &[u8]) -> Result<Option<Change>, Refusal>
     ensures { WantedFor base (nodes_of map) our_id (λ s. vote_for_bytes base s bytes.now) result }
 {
-    let (change, _) = bincode::read_whole::<Change>(bytes)?;
+    let (change, _) = bincode::read_whole::<FixintEncoding, Change>(bytes)?;
     if !network_info::is_member(map, our_id) {
         return Ok(None);
     }
@@ -240,7 +240,7 @@ fn judge_content(m: Message, sender: u32, known: Known) -> Task
 fn judge(bytes: &[u8], sender: u32, known: Known) -> Task
     ensures { JudgedRead base known.era (nodes_of known.pub_keys) (running.state_of known.key_gen_state) known.held sender bytes.now result }
 {
-    match bincode::read_whole::<Message>(bytes) {
+    match bincode::read_whole::<FixintEncoding, Message>(bytes) {
         Ok((m, _)) => judge_content(m, sender, known),
         Err(n) => Task::Answer(Err(n)),
     }

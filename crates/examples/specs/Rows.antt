@@ -1,18 +1,21 @@
--- 01, "Half-marathon examples": the marked ones (*), in their order; and 02's key messages of a leaving node and boards. A later layer adds its own kind of row here.
-use Rattle.std.specs.Prelude.{ℕ, zero, suc, ◌+◌, ◌≡◌, List, [], ◌∷◌, Bool, true, false}
+-- 01, "Half-marathon examples": the marked ones (*), in their order; and 02's key messages of a leaving node, boards and join plans in both editions. A later layer adds its own kind of row here.
+use Rattle.std.specs.Prelude.{ℕ, zero, suc, ◌+◌, ◌-◌, ◌^◌, ◌≡◌, List, [], ◌∷◌, Bool, true, false, length, take, replicate}
 use Rattle.lists.specs.Lists.{Found, found, nothing}
+use Rattle.bincode.specs.Read.{value, whole}
 use Rattle.bincode.specs.Outcome.{Outcome, done, refused}
+use Rattle.bincode.specs.Numbers.{Edition, fixed, variable}
 use Rattle.bincode.specs.Sizes.{base}
 use Rattle.util.specs.MaxFaulty.{max_faulty}
 use Rattle.honey_badger.specs.declared.EncryptionSchedule.{EncryptionSchedule}
-use Rattle.honey_badger.specs.declared.EncryptionSchedule.TheVariants.{Always, EveryNthEpoch, TickTock}
+use Rattle.honey_badger.specs.declared.EncryptionSchedule.TheVariants.{Always, Never, EveryNthEpoch, TickTock}
 use Rattle.honey_badger.specs.EncryptionSchedule.{use_on_epoch}
-use Rattle.change.specs.Change.{ChangeOf, node_change, encryption_schedule, same_change}
+use Rattle.change.specs.Change.{ChangeOf, node_change, encryption_schedule, in_progress, complete, same_change}
 use Rattle.winner.specs.Board as board
 use Rattle.winner.specs.Board.{Cast}
 use Rattle.pub_key_map.specs.declared.Node.{Node}
 use Rattle.votes.specs.Votes.{VoteOf, SignedVoteOf, vote_bytes}
-use Rattle.params.specs.declared.SubsetHandlingStrategy.TheVariants.{Incremental}
+use Rattle.params.specs.declared.SubsetHandlingStrategy.TheVariants.{Incremental, AllAtEnd}
+use Rattle.join_plan.specs.JoinPlan.{PlanOf, read_plan, plan_bytes, plan_converted, conversion_said}
 use Rattle.key_gen_message.specs.KeyGenMessage.{part, ack, SignedKeyGenMsgOf}
 use Rattle.fault_log.specs.declared.FaultKind.{FaultKind}
 use Rattle.fault_log.specs.declared.FaultKind.TheVariants.{UnexpectedKeyGenPart, UnexpectedKeyGenAck}
@@ -37,6 +40,10 @@ pub data Row : Type 0 where
   shown : List (Cast ChangeOf) → List (ℕ × ChangeOf) → Row
   -- a vote as bytes
   encoded : VoteOf → List ℕ → Row
+  -- a join plan as bytes of the old edition and of the new one (02, CR 5)
+  planned : PlanOf → List ℕ → List ℕ → Row
+  -- how many bytes a join plan takes in each
+  long : PlanOf → ℕ → ℕ → Row
   -- whether a schedule encrypts an epoch
   encrypted : EncryptionSchedule → ℕ → Bool → Row
 
@@ -119,6 +126,37 @@ leaving era =
 abbrev pub fault_of : ℕ → FaultKind → Fault
 fault_of i k = record { node_id = i; kind = k }
 
+-- bytes of the edition a converted to b, in a buffer of zeros: accepted as the other bytes, with their length
+abbrev pub Converts : Edition → Edition → ℕ → List ℕ → List ℕ → Type 0
+Converts a b room s t =
+    (conversion_said a b room base s (replicate room 0) ≡ done (length t)) × (take (length t) (plan_converted a b room base s (replicate room 0)) ≡ t)
+
+-- era 300, `EveryNthEpoch(70000)` in progress, one node 250 with key 251, key set 0, 2^32 future epochs, `Incremental`, `Never`
+abbrev pub short_plan : PlanOf
+short_plan =
+    record {
+      era = 300;
+      change = in_progress (encryption_schedule (EveryNthEpoch 70000));
+      keys = record { id = 250; key = 251 } ∷ [];
+      key_set = 0;
+      params = record { max_future_epochs = 2 ^ 32; subset_handling_strategy = Incremental; encryption_schedule = Never };
+    }
+
+-- sixteen nodes whose ids and keys take all the bytes that they can, twice, and the longest schedule
+abbrev pub long_nodes : ℕ → ℕ → List Node
+long_nodes i zero = []
+long_nodes i (suc n) = record { id = 2 ^ 16 + i; key = 2 ^ 32 + i } ∷ long_nodes (i + 1) n
+
+abbrev pub long_plan : PlanOf
+long_plan =
+    record {
+      era = 2 ^ 64 - 1;
+      change = complete (node_change (long_nodes 0 16));
+      keys = long_nodes 0 16;
+      key_set = 2 ^ 32;
+      params = record { max_future_epochs = 2 ^ 64 - 1; subset_handling_strategy = AllAtEnd; encryption_schedule = TickTock (2 ^ 32 - 1) (2 ^ 16) };
+    }
+
 -- what a row claims
 abbrev pub Holds : Row → Type 0
 Holds (faulty n f) = max_faulty n ≡ f
@@ -128,6 +166,11 @@ Holds (moved s inner cs epoch era) = (epoch_of (ref_batch base s inner cs).answe
 Holds (blamed s inner cs fs) = faults_of (ref_batch base s inner cs).answer ≡ done fs
 Holds (shown vs rs) = shown_of (board.board same_change vs) ≡ rs
 Holds (encoded v bytes) = vote_bytes v ≡ bytes
+Holds (planned p old new) =
+    (plan_bytes fixed p ≡ old) × (plan_bytes variable p ≡ new) × Converts fixed variable base.variable_plan old new × Converts variable fixed base.plan new old
+Holds (long p old new) =
+    (whole (read_plan fixed base (plan_bytes fixed p)) (plan_bytes fixed p) ≡ value p old)
+    × (whole (read_plan variable base (plan_bytes variable p)) (plan_bytes variable p) ≡ value p new)
 Holds (encrypted x epoch b) = use_on_epoch x epoch ≡ done b
 
 -- two changes that differ
@@ -182,4 +225,18 @@ rows =
     -- the lowest voter decides, not the place, and nobody's board is empty
     ∷ shown (record { voter = 4; choice = X } ∷ record { voter = 1; choice = Y } ∷ []) ((1, Y) ∷ (1, X) ∷ [])
     ∷ shown [] []
+    -- 02, CR 5: a short plan in both editions, field by field (era; change; map; key set; parameters), and the longest plan
+    ∷ planned
+    short_plan
+    (44 ∷ 1 ∷ 0 ∷ 0 ∷ 0 ∷ 0 ∷ 0 ∷ 0 ∷
+    1 ∷ 0 ∷ 0 ∷ 0 ∷ 1 ∷ 0 ∷ 0 ∷ 0 ∷ 2 ∷ 0 ∷ 0 ∷ 0 ∷ 112 ∷ 17 ∷ 1 ∷ 0 ∷
+    1 ∷ 0 ∷ 0 ∷ 0 ∷ 0 ∷ 0 ∷ 0 ∷ 0 ∷ 250 ∷ 0 ∷ 0 ∷ 0 ∷ 251 ∷ 0 ∷ 0 ∷ 0 ∷ 0 ∷ 0 ∷ 0 ∷ 0 ∷
+    0 ∷ 0 ∷ 0 ∷ 0 ∷ 0 ∷ 0 ∷ 0 ∷ 0 ∷
+    0 ∷ 0 ∷ 0 ∷ 0 ∷ 1 ∷ 0 ∷ 0 ∷ 0 ∷ 0 ∷ 0 ∷ 0 ∷ 0 ∷ 1 ∷ 0 ∷ 0 ∷ 0 ∷ [])
+    (251 ∷ 44 ∷ 1 ∷
+    1 ∷ 1 ∷ 2 ∷ 252 ∷ 112 ∷ 17 ∷ 1 ∷ 0 ∷
+    1 ∷ 250 ∷ 251 ∷ 251 ∷ 0 ∷
+    0 ∷
+    253 ∷ 0 ∷ 0 ∷ 0 ∷ 0 ∷ 1 ∷ 0 ∷ 0 ∷ 0 ∷ 0 ∷ 1 ∷ [])
+    ∷ long long_plan 448 491
     ∷ []

@@ -9,7 +9,7 @@ use Rattle.bincode.specs.Read.{value, bind}
 use Rattle.bincode.specs.Numbers.{Edition}
 use Rattle.bincode.specs.Stands.{concat}
 use Rattle.bincode.specs.Codes.{Codes, NumberCodes}
-use Rattle.bincode.proofs.CodeLaws.{field, ended, choose, none, restate, recode}
+use Rattle.bincode.proofs.CodeLaws.{four, field, ended, choose, none, restate, recode}
 use Rattle.honey_badger.specs.declared.EncryptionSchedule.{EncryptionSchedule}
 use Rattle.honey_badger.specs.declared.EncryptionSchedule.TheVariants.{Always, Never, EveryNthEpoch, TickTock}
 use Rattle.honey_badger.specs.EncryptionSchedule.{fields_of, read_schedule, schedule_bytes, ScheduleOk}
@@ -81,7 +81,7 @@ module _ (e : Edition) (s : List ℕ) (num : NumberCodes e s) where
       (restate
       (λ x o. (o.0, subst ScheduleOk (sym (is_every x (o.0.1 ∙ q))) o.1.0))
       (λ x o. (o.0, (subst ScheduleOk (is_every x (o.0.1 ∙ q)) o.1, tt)))
-      (field {H = λ x. Unit {0} × (tag_of x ≡ t)} first_of (num 4 (lit< tt)) λ n.
+      (field {H = λ x. Unit {0} × (tag_of x ≡ t)} first_of (num 4 four) λ n.
       ended (EveryNthEpoch n) ((tt, sym q), refl) (λ x h. is_every x (h.0.1 ∙ q) ∙ ap EveryNthEpoch h.1)))
 
   tick_codes : (t : ℕ) → t ≡ 3
@@ -91,8 +91,8 @@ module _ (e : Edition) (s : List ℕ) (num : NumberCodes e s) where
       (restate
       (λ x o. (o.0, subst ScheduleOk (sym (is_tick x (o.0.1 ∙ q))) (o.1.0, o.1.1.0)))
       (λ x o. let k = subst ScheduleOk (is_tick x (o.0.1 ∙ q)) o.1 in (o.0, (k.0, (k.1, tt))))
-      (field {H = λ x. Unit {0} × (tag_of x ≡ t)} first_of (num 4 (lit< tt)) λ on.
-      field second_of (num 4 (lit< tt)) λ off.
+      (field {H = λ x. Unit {0} × (tag_of x ≡ t)} first_of (num 4 four) λ on.
+      field second_of (num 4 four) λ off.
       ended (TickTock on off) (((tt, sym q), refl), refl) (λ x h. is_tick x (h.0.0.1 ∙ q) ∙ λ i. TickTock (h.0.1 i) (h.1 i))))
 
   pub schedule_codes : Codes s (read_schedule e s) (schedule_bytes e) ScheduleOk
@@ -100,7 +100,7 @@ module _ (e : Edition) (s : List ℕ) (num : NumberCodes e s) where
   schedule_codes =
       recode (λ x o. tag_behind e x)
       (restate (λ x o. o.1.1) (λ x o. let t = tag_below x in (tt, (omega arith, o)))
-      (field {H = λ x. Unit {0}} tag_of (num 4 (lit< tt)) λ t.
+      (field {H = λ x. Unit {0}} tag_of (num 4 four) λ t.
       choose t 0 (always_codes t) λ n0.
       choose t 1 (never_codes t) λ n1.
       choose t 2 (every_codes t) λ n2.

@@ -1,33 +1,16 @@
--- Laws of the schedule: its length in bytes, equality, the cases of the schedule call.
+-- Laws of the schedule: equality, the cases of the schedule call.
 -- Assumes nothing.
 use Prim.Native.Nat.{ℕ, ◌≤◌, ◌<◌}
 use mathlib.Core.Path.{◌≡◌, refl, sym, ap, ◌∙◌}
 use mathlib.Core.Bool.{Bool, true, false, cond, ◌&&◌}
 use lib.Dec.{eqb}
-use lib.ListN.{length, length-append}
 use borrow.Author.Tests.{lt-ltb, le-ltb, eq-eqb, ne_eqb, eqb-true}
 use Rattle.lists.proofs.ListLaws.{and_both}
 use Rattle.bincode.specs.Outcome.{done, refused}
-use Rattle.bincode.specs.Numbers.{fixed}
-use Rattle.bincode.proofs.NumberLaws.{length_bytes_of}
 use Rattle.honey_badger.specs.declared.EncryptionSchedule.{EncryptionSchedule}
 use Rattle.honey_badger.specs.declared.EncryptionSchedule.TheVariants.{Always, Never, EveryNthEpoch, TickTock}
 use Rattle.honey_badger.specs.contracts.EncryptionSchedulePartialEq.TheImpl.{eq-value}
-use Rattle.honey_badger.specs.EncryptionSchedule.{Fields, fields_of, same_fields, same_schedule, period, row14, encrypts, use_on_epoch, schedule_bytes}
-
--- how many bytes a schedule takes
-abbrev pub schedule_length : EncryptionSchedule → ℕ
-schedule_length Always = 4
-schedule_length Never = 4
-schedule_length (EveryNthEpoch n) = 8
-schedule_length (TickTock on off) = 12
-
-pub length_schedule : (x : EncryptionSchedule) → length (schedule_bytes fixed x) ≡ schedule_length x
-unfolding schedule_bytes
-length_schedule Always = simp (length-append, length_bytes_of)
-length_schedule Never = simp (length-append, length_bytes_of)
-length_schedule (EveryNthEpoch n) = simp (length-append, length_bytes_of)
-length_schedule (TickTock on off) = simp (length-append, length_bytes_of)
+use Rattle.honey_badger.specs.EncryptionSchedule.{Fields, fields_of, same_fields, same_schedule, period, row14, encrypts, use_on_epoch}
 
 -- the schedule that has these fields
 abbrev pub schedule_of : Fields → EncryptionSchedule

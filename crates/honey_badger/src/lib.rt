@@ -1,12 +1,11 @@
 // honey_badger.rs: the schedule of threshold encryption.
 #![tactic(auto)]
 
-ghost use Rattle.std.specs.Prelude.{◌≡◌, ◌≤◌, Bool, length};
+ghost use Rattle.std.specs.Prelude.{◌≡◌, ◌+◌, Bool};
 ghost use Rattle.bincode.specs.Answer.{outcome_as_said};
-ghost use Rattle.bincode.specs.Numbers.{fixed};
 ghost use Rattle.honey_badger.specs.EncryptionSchedule.{cycle_of, use_on_epoch, read_schedule, schedule_bytes};
 
-use bincode::{Decoded, Encoded, Refusal};
+use bincode::{Decoded, Encoded, IntEncoding, Refusal};
 
 #[derive(Clone, Copy, PartialEq, Eq)]
 pub enum EncryptionSchedule {
@@ -64,36 +63,28 @@ impl EncryptionSchedule {
     }
 }
 
-impl Decoded for EncryptionSchedule {
+impl<E: IntEncoding> Decoded<E> for EncryptionSchedule {
     ghost use Rattle.honey_badger.specs.declared.EncryptionSchedule.{EncryptionSchedule};
 
     ghost Value = { EncryptionSchedule };
 
     ghost held = { λ x. x };
 
-    ghost read_at = { read_schedule fixed };
+    ghost read_at = { read_schedule E.edition };
 
-    #[tactic(auto, using(bincode::proofs::NumberLaws::read_refused), unfolding(crate::specs::EncryptionSchedule::read_schedule))]
+    #[tactic(auto, unfolding(crate::specs::EncryptionSchedule::read_schedule))]
     fn read(s: &[u8], at: usize) -> Result<(Self, usize), Refusal> {
-        let Ok((tag, c)) = bincode::read_u32(s, at) else {
-            return Err(Refusal::Malformed);
-        };
+        let (tag, c) = E::read_u32(s, at)?;
         match tag {
             0 => Ok((EncryptionSchedule::Always, c)),
             1 => Ok((EncryptionSchedule::Never, c)),
             2 => {
-                let Ok((n, d)) = bincode::read_u32(s, c) else {
-                    return Err(Refusal::Malformed);
-                };
+                let (n, d) = E::read_u32(s, c)?;
                 Ok((EncryptionSchedule::EveryNthEpoch(n), d))
             }
             3 => {
-                let Ok((on, d)) = bincode::read_u32(s, c) else {
-                    return Err(Refusal::Malformed);
-                };
-                let Ok((off, e)) = bincode::read_u32(s, d) else {
-                    return Err(Refusal::Malformed);
-                };
+                let (on, d) = E::read_u32(s, c)?;
+                let (off, e) = E::read_u32(s, d)?;
                 Ok((EncryptionSchedule::TickTock(on, off), e))
             }
             _ => Err(Refusal::Malformed),
@@ -101,34 +92,28 @@ impl Decoded for EncryptionSchedule {
     }
 }
 
-// How many bytes a schedule takes.
-#[tactic(auto, using(crate::proofs::ScheduleLaws::length_schedule))]
-pub fn schedule_size(x: EncryptionSchedule) -> usize
-    ensures { (result ≡ length (schedule_bytes fixed x)) × (result ≤ 12) }
-{
-    match x {
-        EncryptionSchedule::Always => 4,
-        EncryptionSchedule::Never => 4,
-        EncryptionSchedule::EveryNthEpoch(_) => 8,
-        EncryptionSchedule::TickTock(_, _) => 12,
-    }
-}
+impl<E: IntEncoding> Encoded<E> for EncryptionSchedule {
+    ghost bytes = { schedule_bytes E.edition };
 
-impl Encoded for EncryptionSchedule {
-    ghost bytes = { schedule_bytes fixed };
+    ghost longest = { E.longest 4 + (E.longest 4 + E.longest 4) };
 
-    #[tactic(auto, using(bincode::proofs::WriteLaws::size_told))]
+    #[tactic(auto, unfolding(crate::specs::EncryptionSchedule::schedule_bytes))]
     fn size(&self) -> usize {
-        schedule_size(*self)
+        match *self {
+            EncryptionSchedule::Always => E::size_u32(0),
+            EncryptionSchedule::Never => E::size_u32(1),
+            EncryptionSchedule::EveryNthEpoch(n) => Encoded::<E>::size(&(2u32, n)),
+            EncryptionSchedule::TickTock(on, off) => Encoded::<E>::size(&(3u32, on, off)),
+        }
     }
 
     #[tactic(auto, unfolding(crate::specs::EncryptionSchedule::schedule_bytes))]
     fn write(&self, buf: &mut [u8], at: usize) -> usize {
         match *self {
-            EncryptionSchedule::Always => bincode::write_u32(buf, at, 0),
-            EncryptionSchedule::Never => bincode::write_u32(buf, at, 1),
-            EncryptionSchedule::EveryNthEpoch(n) => (2u32, n).write(buf, at),
-            EncryptionSchedule::TickTock(on, off) => (3u32, on, off).write(buf, at),
+            EncryptionSchedule::Always => E::write_u32(buf, at, 0),
+            EncryptionSchedule::Never => E::write_u32(buf, at, 1),
+            EncryptionSchedule::EveryNthEpoch(n) => Encoded::<E>::write(&(2u32, n), buf, at),
+            EncryptionSchedule::TickTock(on, off) => Encoded::<E>::write(&(3u32, on, off), buf, at),
         }
     }
 }

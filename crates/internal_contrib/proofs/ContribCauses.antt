@@ -5,7 +5,7 @@ use mathlib.Core.Path.{◌≡◌, refl}
 use mathlib.Core.List.{List, [], ◌∷◌}
 use mathlib.Core.Logic.{◌↔◌}
 use native.Mathlib.Omega.{arith}
-use lib.Dec.{lit<, ltb}
+use lib.Dec.{ltb}
 use lib.ListN.{length, take, drop}
 use borrow.Author.Tests.{ltb-true, ltb-false}
 use Rattle.bincode.specs.Read.{whole}
@@ -15,7 +15,7 @@ use Rattle.bincode.specs.Items.{foldl}
 use Rattle.bincode.specs.Stands.{Each}
 use Rattle.bincode.specs.Codes.{Codes}
 use Rattle.bincode.specs.Causes.{cut, not_ascending, count_over, total_over, too_long, Short, Caused, Causes}
-use Rattle.bincode.proofs.CodeLaws.{fixed_codes, restate}
+use Rattle.bincode.proofs.CodeLaws.{four, eight, fixed_codes, restate}
 use Rattle.bincode.proofs.CauseLaws.{field, field_ok, last, tested, tested_last, fixed_causes, whole_causes}
 use Rattle.bincode.proofs.RunCauses.{counted_causes, plain_causes, not_above}
 use Rattle.votes.specs.Votes as votes
@@ -41,7 +41,7 @@ module _ (s : List ℕ) (z : Sizes) where
   pub user_causes : Causes s (read_user z s) (user_wrong z s)
   unfolding read_user
   user_causes =
-      field (fixed_codes s 8 (lit< tt)) (fixed_causes s 8 (lit< tt)) λ n.
+      field (fixed_codes s 8 eight) (fixed_causes s 8 eight) λ n.
       tested (ltb z.user n) count_over 3 refl (ltb-true z.user n) (λ t l. let m = ltb-false z.user n t in omega arith) λ t at.
       tested_last (ltb (length s - at) n) cut 2 refl (ltb-true (length s - at) n) (λ u l. let m = ltb-false (length s - at) n u in omega arith)
       (take n (drop at s)) (at + n)
@@ -55,13 +55,13 @@ module _ (s : List ℕ) (z : Sizes) where
     unfolding read_messages
     messages_causes fits =
         plain_causes s (key_gen.read_signed_key_gen_msg z s) key_gen.signed_bytes (key_gen.SignedOk z) (message_codes.signed_codes s z fits)
-        (message.signed_wrong z s) (message_causes.signed_causes s z fits) left (λ n. z.items < before + n) over_left total_over refl
+        (message.signed_wrong z s) (message_causes.signed_causes s z fits) fixed Short (fixed_codes s) (fixed_causes s) left (λ n. z.items < before + n) over_left total_over refl
 
     pub votes_causes : z.nodes < 256 ^ 8 → Causes s (read_votes z s left) (votes_wrong z s before)
     unfolding read_votes
     votes_causes fits =
         plain_causes s (votes.read_signed_vote z s) votes.signed_bytes (votes.SignedVoteOk z) (vote_codes.signed_codes s z fits)
-        (vote.signed_wrong z s) (vote_causes.signed_causes s z fits) left (λ n. z.items < before + n) over_left total_over refl
+        (vote.signed_wrong z s) (vote_causes.signed_causes s z fits) fixed Short (fixed_codes s) (fixed_causes s) left (λ n. z.items < before + n) over_left total_over refl
 
     messages_fine : z.rows < 256 ^ 8 → Codes s (read_messages z s left) messages_bytes (MessagesFine z s before)
     messages_fine fits = restate (λ ms o. (o.0, omega (arith, o.1), o.2)) (λ ms o. (o.0, omega (arith, o.1), o.2)) (messages_codes s z fits left)
@@ -74,7 +74,7 @@ module _ (z : Sizes) (nodes-fit : z.nodes < 256 ^ 8) (rows_fit : z.rows < 256 ^ 
   contrib_causes before h =
       let b = foldl spending (opening z) before in
       let spent : b.left + total before ≡ z.items = left_total z before (opening z) h in
-      field (fixed_codes s 4 (lit< tt)) (fixed_causes s 4 (lit< tt)) λ id.
+      field (fixed_codes s 4 four) (fixed_causes s 4 four) λ id.
       let below = not_above spending (ContribOk z) (λ x. x.id) (λ c. c.low) (λ c x. refl) (λ c x o. o.ascends) (opening z) refl before h id in
       tested (ltb id b.low) not_ascending 2 refl
       (λ t. below.0 (ltb-true id b.low t)) (λ t p. let l = ltb-false id b.low t in let m = below.1 p in omega arith) λ t.

@@ -5,7 +5,7 @@ use mathlib.Core.Path.{◌≡◌, refl, sym, ap, ◌∙◌, subst}
 use mathlib.Core.List.{List}
 use mathlib.Core.Bool.{cond}
 use native.Mathlib.Omega.{arith}
-use lib.Dec.{lit<, ltb}
+use lib.Dec.{ltb}
 use lib.ListN.{length, take, drop, length-take, length-drop}
 use lib.Seq.{length-take-le}
 use borrow.Author.Tests.{le-ltb, ltb-false}
@@ -17,7 +17,7 @@ use Rattle.bincode.specs.Stands.{Bytes, Stands, Each, All}
 use Rattle.bincode.specs.Codes.{Codes}
 use Rattle.bincode.proofs.NumberLaws.{bytes_part}
 use Rattle.bincode.proofs.ReadLaws.{cond_value}
-use Rattle.bincode.proofs.CodeLaws.{fixed_codes, field, guard, ended, restate, counted_any, counted_codes, one_encoding, round_trip}
+use Rattle.bincode.proofs.CodeLaws.{four, eight, fixed_codes, field, guard, ended, restate, counted_any, counted_codes, one_encoding, round_trip}
 use Rattle.votes.specs.Votes as votes
 use Rattle.votes.proofs.VoteCodes as vote_codes
 use Rattle.key_gen_message.specs.KeyGenMessage as key_gen
@@ -56,7 +56,7 @@ module _ (s : List ℕ) (z : Sizes) where
       restate
       (λ u o. record { short = o.1.1.0; bytes = o.1.1.1 })
       (λ u o. let l = o.short in (tt, (omega arith, (o.short, o.bytes))))
-      (field {H = λ u. Unit {0}} {Q = λ u. (length u ≤ z.user) × Bytes u} length (fixed_codes s 8 (lit< tt)) λ n.
+      (field {H = λ u. Unit {0}} {Q = λ u. (length u ≤ z.user) × Bytes u} length (fixed_codes s 8 eight) λ n.
       guard (ltb z.user n) 3
       (λ t. let l = ltb-false z.user n t in restate (λ u o. ((tt, o.0), (omega (arith, o.0), o.1))) (λ u o. (o.0.1, o.1.1)) (raw_codes s n))
       (λ u o. le-ltb z.user n (omega (arith, o.0.1, o.1.0))))
@@ -112,7 +112,7 @@ module _ (z : Sizes) (nodes-fit : z.nodes < 256 ^ 8) (rows_fit : z.rows < 256 ^ 
           ),
         ),
       ))
-      (field {H = λ x. Unit {0}} {Q = λ x. (b.low ≤ x.id) × (UserOk z x.user × Within z b x)} (λ x. x.id) (fixed_codes s 4 (lit< tt)) λ id.
+      (field {H = λ x. Unit {0}} {Q = λ x. (b.low ≤ x.id) × (UserOk z x.user × Within z b x)} (λ x. x.id) (fixed_codes s 4 four) λ id.
       guard {P = λ x. (Unit {0} × (x.id ≡ id)) × ((b.low ≤ x.id) × (UserOk z x.user × Within z b x))} (ltb id b.low) 2
       (λ t.
       restate (λ x o. (o.0, (rw o.0.1 (ltb-false id b.low t), o.1))) (λ x o. (o.0, o.1.1))

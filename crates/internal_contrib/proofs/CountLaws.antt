@@ -44,7 +44,7 @@ module _ {A : Type 0} (rd : ℕ → Read A) (s : List ℕ) (left at : ℕ) where
   module _ (n c : ℕ) (r : read_num 8 s at ≡ value n c) where
     module _ (h : n ≤ left) (t : Result ℕ Refusal) (e : t ≡ step_of (many rd n c)) where
       counted_many : counted (plain rd) stay fixed s left tt at ≡ many rd n c
-      counted_many = counted_start (plain rd) stay s left tt at n c r h ∙ sym (many_start rd n c)
+      counted_many = counted_start (plain rd) stay fixed s left tt at n c r h ∙ sym (many_start rd n c)
 
       pub count_passed : (d : ℕ) → t ≡ Ok d
           → ◌≡◌ {A = Result (Span × ℕ) Refusal} (Ok (record { at = at; count = n }, d)) (answer (span_of at) (counted (plain rd) stay fixed s left tt at))

@@ -99,7 +99,7 @@ module _ (z : Sizes) (s : List ℕ) where
           noted = q;
           stop = (read_value 8 s 0 n first r).2;
           within = omega arith;
-          rest = counted_start (read_contrib z s) spending s z.nodes (opening z) 0 n first r h;
+          rest = counted_start (read_contrib z s) spending fixed s z.nodes (opening z) 0 n first r h;
         }
 
     module _ (b : Budget) (messages : ℕ) (contribs : List Contrib) (c i : ℕ) (w : Indexing b messages contribs c i) where

@@ -15,7 +15,7 @@ ghost use Rattle.internal_contrib.specs.Places.{span_of, placed, spent, said_pla
 ghost use Rattle.internal_contrib.specs.Index.{contribs_in, contrib_id, index_held, place_in, Indexed};
 
 use array_list::{ArrayList, Keyed};
-use bincode::Refusal;
+use bincode::{FixintEncoding, Refusal};
 use key_gen_message::MessageHead;
 use votes::VoteHead;
 
@@ -93,7 +93,7 @@ impl Budget {
 fn read_user(s: &[u8], at: usize) -> Result<(Span, usize), Refusal>
     ensures { result ≡ answer (span_of (at + 8)) (read_user base s.now at) }
 {
-    let (n, c) = bincode::read_count(s, at, Contrib::USER)?;
+    let (n, c) = bincode::read_count::<FixintEncoding>(s, at, Contrib::USER)?;
     let len = n as usize;
     if bincode::room(s.len(), c, len) {
         Ok((Span { at: c, count: n }, c + len))
@@ -153,7 +153,7 @@ fn pass_items<T: Item>(s: &[u8], at: usize, n: u64) -> Result<usize, Refusal>
 fn read_items<T: Item>(s: &[u8], at: usize, left: u64) -> Result<(Span, usize), Refusal>
     ensures { result ≡ answer (span_of at) (counted (plain (T.read_at s.now)) stay fixed s.now left tt at) }
 {
-    let (n, c) = bincode::read_count(s, at, left)?;
+    let (n, c) = bincode::read_count::<FixintEncoding>(s, at, left)?;
     let d = pass_items::<T>(s, c, n)?;
     Ok((Span { at, count: n }, d))
 }
@@ -230,7 +230,7 @@ pub fn index_batch(s: &[u8]) -> Result<(BatchIndex, u64), Refusal>
     if Budget::BYTES < s.len() {
         return Err(Refusal::TooLarge); // the whole length
     }
-    let (n, first) = bincode::read_count(s, 0, Budget::CONTRIBS)?;
+    let (n, first) = bincode::read_count::<FixintEncoding>(s, 0, Budget::CONTRIBS)?;
     let count = n as usize;
     let mut contribs = BatchIndex::empty().contribs.items;
     let mut b = Budget::new();

@@ -8,7 +8,7 @@ ghost use Rattle.change.specs.Change.{state_of};
 ghost use Rattle.join_plan.specs.JoinPlan.{plan_of};
 ghost use Rattle.joining.specs.Starting.{empty_progress, join_checked, join_plan, join_row8, join_row10, start_checked, start_of};
 
-use bincode::Refusal;
+use bincode::{FixintEncoding, Refusal};
 use change::{Change, ChangeState};
 use due::DueList;
 use join_plan::JoinPlan;
@@ -80,7 +80,7 @@ pub fn check_joining(
     if due_places < DueList::LIMIT {
         return Err(Refusal::ShortBuffer);
     }
-    let (read, _) = bincode::read_whole::<JoinPlan>(plan)?;
+    let (read, _) = bincode::read_whole::<FixintEncoding, JoinPlan>(plan)?;
     check_plan(our_id, secret_key, read)
 }
 
@@ -93,8 +93,8 @@ pub fn check_starting(
 ) -> Result<(PubKeyMap, Params), Refusal>
     ensures { outcome_as_said start_of result ≡ start_checked base secret_key map.now params.now }
 {
-    let (pub_keys, _) = bincode::read_whole::<PubKeyMap>(map)?;
-    let (read, _) = bincode::read_whole::<Params>(params)?;
+    let (pub_keys, _) = bincode::read_whole::<FixintEncoding, PubKeyMap>(map)?;
+    let (read, _) = bincode::read_whole::<FixintEncoding, Params>(params)?;
     if secret_key == 0 {
         return Err(Refusal::Malformed);
     }

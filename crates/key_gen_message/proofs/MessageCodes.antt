@@ -10,7 +10,7 @@ use Rattle.bincode.specs.Numbers.{bytes_of}
 use Rattle.bincode.specs.Sizes.{Sizes}
 use Rattle.bincode.specs.Stands.{concat}
 use Rattle.bincode.specs.Codes.{Codes}
-use Rattle.bincode.proofs.CodeLaws.{fixed_codes, field, ended, choose, none, restate, recode}
+use Rattle.bincode.proofs.CodeLaws.{four, eight, fixed_codes, field, ended, choose, none, restate, recode}
 use Rattle.sync_key_gen.specs.SyncKeyGen.{PartOf, AckOf, no_part, no_ack, read_part, read_ack, part_bytes, ack_bytes}
 use Rattle.sync_key_gen.proofs.KeyGenCodes.{part_codes, ack_codes}
 use Rattle.key_gen_message.specs.KeyGenMessage.{KeyGenMessageOf, part, ack, read_key_gen_message, tagged_bytes, message_bytes, MessageOk, read_signed_key_gen_msg, signed_bytes, SignedOk}
@@ -79,7 +79,7 @@ module _ (s : List ℕ) (z : Sizes) (fits : z.rows < 256 ^ 8) where
   message_codes =
       recode (λ m o. tag_behind m)
       (restate (λ m o. o.1.1) (λ m o. let t = tag_below m in (tt, (omega arith, o)))
-      (field {H = λ m. Unit {0}} tag_of (fixed_codes s 4 (lit< tt)) λ t.
+      (field {H = λ m. Unit {0}} tag_of (fixed_codes s 4 four) λ t.
       choose t 0 (part_case t) λ n0.
       choose t 1 (ack_case t) λ n1.
       none 2 (λ m o. let b = tag_below m in let i = o.0.1 in omega arith)))
@@ -90,9 +90,9 @@ module _ (s : List ℕ) (z : Sizes) (fits : z.rows < 256 ^ 8) where
       restate
       (λ x o. record { era_fits = o.1.0; id_fits = o.1.1.0; message_ok = o.1.1.1.0; sig_fits = o.1.1.1.1.0 })
       (λ x o. (tt, (o.era_fits, (o.id_fits, (o.message_ok, (o.sig_fits, tt))))))
-      (field {H = λ x. Unit {0}} (λ x. x.era) (fixed_codes s 8 (lit< tt)) λ era.
-      field (λ x. x.id) (fixed_codes s 4 (lit< tt)) λ id.
+      (field {H = λ x. Unit {0}} (λ x. x.era) (fixed_codes s 8 eight) λ era.
+      field (λ x. x.id) (fixed_codes s 4 four) λ id.
       field (λ x. x.message) message_codes λ message.
-      field (λ x. x.sig) (fixed_codes s 8 (lit< tt)) λ sig.
+      field (λ x. x.sig) (fixed_codes s 8 eight) λ sig.
       ended (record { era = era; id = id; message = message; sig = sig }) ((((tt, refl), refl), refl), refl)
       (λ x h. λ i. record { era = h.0.0.0.1 i; id = h.0.0.1 i; message = h.0.1 i; sig = h.1 i }))

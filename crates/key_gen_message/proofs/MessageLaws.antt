@@ -1,26 +1,23 @@
--- Laws of key-generation messages: what a struct holds, lengths in bytes, and equality.
+-- Laws of key-generation messages: what a struct holds, a tag in front of a part or an ack, and equality.
 -- Assumes nothing.
-use Prim.Native.Nat.{ℕ, ◌+◌}
+use Prim.Native.Nat.{ℕ}
 use mathlib.Core.Path.{◌≡◌, refl, ap, ◌∙◌}
 use mathlib.Core.List.{List, [], ◌∷◌, append-nil}
 use mathlib.Core.Bool.{Bool, true, false, ◌&&◌}
-use native.Mathlib.Omega.{arith}
 use lib.Dec.{eqb}
-use lib.ListN.{length, length-append}
 use borrow.Author.Tests.{eq-eqb, eqb-true}
 use Rattle.bincode.specs.Sizes.{base}
 use Rattle.bincode.specs.Numbers.{bytes_of}
 use Rattle.bincode.specs.Stands.{concat}
-use Rattle.bincode.proofs.NumberLaws.{length_bytes_of}
 use Rattle.lists.proofs.ListLaws.{false_true, and_both, take_padded}
-use Rattle.sync_key_gen.specs.SyncKeyGen.{PartOf, AckOf, part_bytes, ack_bytes, handles_bytes, same_handles}
+use Rattle.sync_key_gen.specs.SyncKeyGen.{PartOf, AckOf, part_bytes, ack_bytes, same_handles}
 use Rattle.sync_key_gen.proofs.KeyGenLaws.{handles_true, handles_refl, handles_eq}
 use Rattle.key_gen_message.specs.declared.KeyGenMessage.{KeyGenMessage}
 use Rattle.key_gen_message.specs.declared.KeyGenMessage.TheVariants.{Part, Ack}
 use Rattle.key_gen_message.specs.declared.SignedKeyGenMsg.{SignedKeyGenMsg}
 use Rattle.key_gen_message.specs.contracts.KeyGenMessagePartialEq.TheImpl as message
 use Rattle.key_gen_message.specs.contracts.SignedKeyGenMsgPartialEq.TheImpl as signed
-use Rattle.key_gen_message.specs.KeyGenMessage.{KeyGenMessageOf, part, ack, message_of, message_held, SignedKeyGenMsgOf, signed_of, signed_held, same_headed, same_message, same_signed, tagged_bytes, message_bytes, signed_bytes}
+use Rattle.key_gen_message.specs.KeyGenMessage.{KeyGenMessageOf, part, ack, message_of, message_held, SignedKeyGenMsgOf, signed_of, signed_held, same_headed, same_message, same_signed, tagged_bytes}
 
 -- a struct that holds what was read stands for it
 pub held_message : (m : KeyGenMessageOf) → message_of (message_held m) ≡ m
@@ -30,15 +27,6 @@ held_message (ack a) = ap {B = KeyGenMessageOf} (λ (xs : List ℕ). ack (record
 pub held_signed : (m : SignedKeyGenMsgOf) → signed_of (signed_held m) ≡ m
 held_signed m = ap (λ (y : KeyGenMessageOf). record { era = m.era; id = m.id; message = y; sig = m.sig }) (held_message m.message)
 
--- the rows or values of a message
-abbrev pub handles_in : KeyGenMessageOf → List ℕ
-handles_in (part p) = p.rows
-handles_in (ack a) = a.values
-
-pub length_tagged : (tag head : ℕ) (xs : List ℕ) → length (tagged_bytes tag head xs) ≡ 12 + length (handles_bytes xs)
-unfolding tagged_bytes
-length_tagged tag head xs = simp (length-append, length_bytes_of) (omega arith)
-
 -- a part, or an ack, behind its tag
 pub tagged_part : (tag : ℕ) (p : PartOf) → concat (bytes_of 4 tag ∷ part_bytes p ∷ []) ≡ tagged_bytes tag p.commit p.rows
 unfolding tagged_bytes part_bytes
@@ -47,15 +35,6 @@ tagged_part tag p = simp append-nil
 pub tagged_ack : (tag : ℕ) (a : AckOf) → concat (bytes_of 4 tag ∷ ack_bytes a ∷ []) ≡ tagged_bytes tag a.proposer a.values
 unfolding tagged_bytes ack_bytes
 tagged_ack tag a = simp append-nil
-
-pub length_message : (m : KeyGenMessageOf) → length (message_bytes m) ≡ 12 + length (handles_bytes (handles_in m))
-unfolding message_bytes
-length_message (part p) = length_tagged 0 p.commit p.rows
-length_message (ack a) = length_tagged 1 a.proposer a.values
-
-pub length_signed : (x : SignedKeyGenMsgOf) → length (signed_bytes x) ≡ 20 + length (message_bytes x.message)
-unfolding signed_bytes
-length_signed x = simp (length-append, length_bytes_of) (omega arith)
 
 -- equality is equality
 headed_true : (x : ℕ) (xs : List ℕ) (y : ℕ) (ys : List ℕ) → same_headed x xs y ys ≡ true → (x ≡ y) × (xs ≡ ys)

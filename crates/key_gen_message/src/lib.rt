@@ -10,7 +10,7 @@ ghost use Rattle.key_gen_message.specs.Head.{body_of, head_of};
 ghost use Rattle.key_gen_message.specs.KeyGenMessage.{KeyGenMessageOf, part, ack, message_of, message_held, no_message, read_key_gen_message};
 ghost use Rattle.key_gen_message.specs.KeyGenMessage.{message_bytes, SignedKeyGenMsgOf, signed_of, signed_held, no_signed, read_signed_key_gen_msg, signed_bytes};
 
-use bincode::{Decoded, Encoded, Refusal};
+use bincode::{Decoded, Encoded, FixintEncoding, Refusal};
 use sync_key_gen::{Ack, Handles, Part};
 
 // A proposer's part, or an ack of one.
@@ -66,7 +66,7 @@ impl SignedKeyGenMsg {
     }
 }
 
-impl Decoded for KeyGenMessage {
+impl Decoded<FixintEncoding> for KeyGenMessage {
     ghost Value = { KeyGenMessageOf };
 
     ghost held = { message_held };
@@ -92,7 +92,7 @@ impl Decoded for KeyGenMessage {
     }
 }
 
-impl Decoded for SignedKeyGenMsg {
+impl Decoded<FixintEncoding> for SignedKeyGenMsg {
     ghost Value = { SignedKeyGenMsgOf };
 
     ghost held = { signed_held };
@@ -154,7 +154,7 @@ pub struct MessageHead {
 fn skip_handles(s: &[u8], at: usize) -> Result<(u64, usize), Refusal>
     ensures { result ≡ answer length (read_handles base s.now at) }
 {
-    let (n, c) = bincode::read_count(s, at, Handles::LIMIT as u64)?;
+    let (n, c) = bincode::read_count::<FixintEncoding>(s, at, Handles::LIMIT as u64)?;
     let size = 8 * (n as usize);
     if !bincode::room(s.len(), c, size) {
         return Err(Refusal::Malformed);
@@ -209,51 +209,40 @@ pub fn read_head(s: &[u8], at: usize) -> Result<(MessageHead, usize), Refusal>
     ))
 }
 
-// How many bytes a message takes.
-#[tactic(auto, using(crate::proofs::MessageLaws::length_message))]
-pub fn message_size(m: KeyGenMessage) -> usize
-    ensures { (result ≡ length (message_bytes (message_of m))) × (result ≤ 20 + 8 * base.rows) }
-{
-    let handles = match m {
-        KeyGenMessage::Part(p) => p.rows,
-        KeyGenMessage::Ack(a) => a.values,
-    };
-    12 + sync_key_gen::handles_size(handles)
-}
-
-// How many bytes a signed message takes.
-#[tactic(auto, using(crate::proofs::MessageLaws::length_signed))]
-pub fn signed_size(x: SignedKeyGenMsg) -> usize
-    ensures { (result ≡ length (signed_bytes (signed_of x))) × (result ≤ 40 + 8 * base.rows) }
-{
-    20 + message_size(x.message)
-}
-
-impl Encoded for KeyGenMessage {
+impl Encoded<FixintEncoding> for KeyGenMessage {
     ghost bytes = { λ m. message_bytes (message_of m) };
 
+    ghost longest = { 20 + 8 * base.rows };
+
+    #[tactic(auto, using(crate::proofs::MessageLaws::tagged_part, crate::proofs::MessageLaws::tagged_ack), unfolding(crate::specs::KeyGenMessage::message_bytes))]
     fn size(&self) -> usize {
-        message_size(*self)
+        match *self {
+            KeyGenMessage::Part(p) => Encoded::<FixintEncoding>::size(&(0u32, p)),
+            KeyGenMessage::Ack(a) => Encoded::<FixintEncoding>::size(&(1u32, a)),
+        }
     }
 
     #[tactic(auto, using(crate::proofs::MessageLaws::tagged_part, crate::proofs::MessageLaws::tagged_ack), unfolding(crate::specs::KeyGenMessage::message_bytes))]
     fn write(&self, buf: &mut [u8], at: usize) -> usize {
         match *self {
-            KeyGenMessage::Part(p) => (0u32, p).write(buf, at),
-            KeyGenMessage::Ack(a) => (1u32, a).write(buf, at),
+            KeyGenMessage::Part(p) => Encoded::<FixintEncoding>::write(&(0u32, p), buf, at),
+            KeyGenMessage::Ack(a) => Encoded::<FixintEncoding>::write(&(1u32, a), buf, at),
         }
     }
 }
 
-impl Encoded for SignedKeyGenMsg {
+impl Encoded<FixintEncoding> for SignedKeyGenMsg {
     ghost bytes = { λ x. signed_bytes (signed_of x) };
 
+    ghost longest = { 40 + 8 * base.rows };
+
+    #[tactic(auto, unfolding(crate::specs::KeyGenMessage::signed_bytes))]
     fn size(&self) -> usize {
-        signed_size(*self)
+        Encoded::<FixintEncoding>::size(&(self.era, self.id, self.message, self.sig))
     }
 
     #[tactic(auto, unfolding(crate::specs::KeyGenMessage::signed_bytes))]
     fn write(&self, buf: &mut [u8], at: usize) -> usize {
-        (self.era, self.id, self.message, self.sig).write(buf, at)
+        Encoded::<FixintEncoding>::write(&(self.era, self.id, self.message, self.sig), buf, at)
     }
 }

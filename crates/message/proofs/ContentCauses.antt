@@ -3,10 +3,9 @@
 use Prim.Native.Nat.{ℕ, ◌^◌, ◌<◌}
 use mathlib.Core.Path.{refl}
 use mathlib.Core.List.{List}
-use lib.Dec.{lit<}
 use Rattle.bincode.specs.Sizes.{Sizes}
 use Rattle.bincode.specs.Causes.{Causes}
-use Rattle.bincode.proofs.CodeLaws.{fixed_codes}
+use Rattle.bincode.proofs.CodeLaws.{four, eight, fixed_codes}
 use Rattle.bincode.proofs.CauseLaws.{field, last, cases, unknown, fixed_causes}
 use Rattle.votes.proofs.VoteCauses.{signed_causes}
 use Rattle.key_gen_message.proofs.MessageCodes.{message_codes}
@@ -18,14 +17,14 @@ module _ (s : List ℕ) (z : Sizes) (rows_fit : z.rows < 256 ^ 8) where
   pub key_gen_causes : Causes s (read_key_gen z s) (key_gen_wrong z s)
   unfolding read_key_gen
   key_gen_causes =
-      field (fixed_codes s 8 (lit< tt)) (fixed_causes s 8 (lit< tt)) λ era.
+      field (fixed_codes s 8 eight) (fixed_causes s 8 eight) λ era.
       field (message_codes s z rows_fit) (message_causes s z) λ message.
-      last (key_gen era message) (fixed_causes s 8 (lit< tt))
+      last (key_gen era message) (fixed_causes s 8 eight)
 
   pub content_causes : z.nodes < 256 ^ 8 → Causes s (read_message z s) (content_wrong z s)
   unfolding read_message read_vote
   content_causes nodes-fit =
-      field (fixed_codes s 4 (lit< tt)) (fixed_causes s 4 (lit< tt)) λ tag.
+      field (fixed_codes s 4 four) (fixed_causes s 4 four) λ tag.
       cases tag 1 key_gen_causes
       (cases tag 2 (last signed_vote (signed_causes s z nodes-fit))
       (unknown 2 refl))

@@ -9,7 +9,7 @@ use Rattle.bincode.specs.Numbers.{bytes_of}
 use Rattle.bincode.specs.Sizes.{Sizes}
 use Rattle.bincode.specs.Stands.{concat}
 use Rattle.bincode.specs.Codes.{Codes}
-use Rattle.bincode.proofs.CodeLaws.{fixed_codes, field, ended, choose, none, restate, recode, one_field}
+use Rattle.bincode.proofs.CodeLaws.{four, eight, fixed_codes, field, ended, choose, none, restate, recode, one_field}
 use Rattle.votes.specs.Votes.{SignedVoteOf, no_signed, signed_bytes}
 use Rattle.votes.proofs.VoteCodes.{signed_codes}
 use Rattle.key_gen_message.specs.KeyGenMessage.{KeyGenMessageOf, no_message, message_bytes}
@@ -72,9 +72,9 @@ module _ (s : List ℕ) (z : Sizes) (nodes-fit : z.nodes < 256 ^ 8) (rows_fit : 
       (restate
       (λ x o. (o.0, subst (ContentOk z) (sym (is_key_gen x (o.0.1 ∙ q))) (o.1.0, o.1.1.0, o.1.1.1.0)))
       (λ x o. let k = subst (ContentOk z) (is_key_gen x (o.0.1 ∙ q)) o.1 in (o.0, (k.0, (k.1, (k.2, tt)))))
-      (field {H = λ x. Unit {0} × (tag_of x ≡ t)} era_in (fixed_codes s 8 (lit< tt)) λ era.
+      (field {H = λ x. Unit {0} × (tag_of x ≡ t)} era_in (fixed_codes s 8 eight) λ era.
       field message_in (message_codes s z rows_fit) λ m.
-      field sig_in (fixed_codes s 8 (lit< tt)) λ sig.
+      field sig_in (fixed_codes s 8 eight) λ sig.
       ended (key_gen era m sig) ((((tt, sym q), refl), refl), refl)
       (λ x h. is_key_gen x (h.0.0.0.1 ∙ q) ∙ λ i. key_gen (h.0.0.1 i) (h.0.1 i) (h.1 i))))
 
@@ -87,7 +87,7 @@ module _ (s : List ℕ) (z : Sizes) (nodes-fit : z.nodes < 256 ^ 8) (rows_fit : 
   content_codes =
       recode (λ x o. tag_behind x)
       (restate (λ x o. o.1.1) (λ x o. let t = tag_below x in (tt, (omega arith, o)))
-      (field {H = λ x. Unit {0}} tag_of (fixed_codes s 4 (lit< tt)) λ t.
+      (field {H = λ x. Unit {0}} tag_of (fixed_codes s 4 four) λ t.
       choose t 1 (key_gen_codes t) λ n1.
       choose t 2 (vote_codes t) λ n2.
       none 2 (λ x o. let a = tag_above x in let b = tag_below x in let i = o.0.1 in omega arith)))

@@ -1,12 +1,12 @@
 // mod.rs: a message of the protocol. Tag 0, `HoneyBadger`, is unknown here: the host keeps those.
 #![tactic(auto)]
 
-ghost use Rattle.std.specs.Prelude.{◌≡◌};
+ghost use Rattle.std.specs.Prelude.{◌≡◌, ◌+◌, ◌*◌, max};
 ghost use Rattle.bincode.specs.Answer.{answer};
 ghost use Rattle.bincode.specs.Sizes.{base};
 ghost use Rattle.message.specs.Message.{MessageContent, content_of, key_gen_held, vote_held, content_held, read_key_gen, read_vote, read_message, content_bytes};
 
-use bincode::{Decoded, Encoded, Refusal};
+use bincode::{Decoded, Encoded, FixintEncoding, Refusal};
 use key_gen_message::KeyGenMessage;
 use votes::SignedVote;
 
@@ -53,7 +53,7 @@ fn read_vote(s: &[u8], at: usize) -> Result<(Message, usize), Refusal>
     Ok((Message::SignedVote(vote), c))
 }
 
-impl Decoded for Message {
+impl Decoded<FixintEncoding> for Message {
     ghost Value = { MessageContent };
 
     ghost held = { content_held };
@@ -73,22 +73,30 @@ impl Decoded for Message {
     }
 }
 
-impl Encoded for Message {
+impl Encoded<FixintEncoding> for Message {
     ghost bytes = { λ m. content_bytes (content_of m) };
+
+    ghost longest = { 4 + max (36 + 8 * base.rows) (40 + 12 * base.nodes) };
 
     #[tactic(auto, unfolding(crate::specs::Message::content_bytes))]
     fn size(&self) -> usize {
         match *self {
-            Message::KeyGen(era, message, sig) => (1u32, era, message, sig).size(),
-            Message::SignedVote(vote) => (2u32, vote).size(),
+            Message::KeyGen(era, message, sig) => Encoded::<FixintEncoding>::size(&(
+                1u32, era, message, sig,
+            )),
+            Message::SignedVote(vote) => Encoded::<FixintEncoding>::size(&(2u32, vote)),
         }
     }
 
     #[tactic(auto, unfolding(crate::specs::Message::content_bytes))]
     fn write(&self, buf: &mut [u8], at: usize) -> usize {
         match *self {
-            Message::KeyGen(era, message, sig) => (1u32, era, message, sig).write(buf, at),
-            Message::SignedVote(vote) => (2u32, vote).write(buf, at),
+            Message::KeyGen(era, message, sig) => Encoded::<FixintEncoding>::write(
+                &(1u32, era, message, sig),
+                buf,
+                at,
+            ),
+            Message::SignedVote(vote) => Encoded::<FixintEncoding>::write(&(2u32, vote), buf, at),
         }
     }
 }

@@ -1,3 +1,4 @@
-pub mod ParamsLaws
 pub mod ParamsCodes
 pub mod ParamsCauses
+pub mod ParamsLengths
+pub mod ParamsRefusals

@@ -3,10 +3,10 @@
 use Prim.Native.Nat.{ℕ}
 use mathlib.Core.Path.{refl}
 use mathlib.Core.List.{List}
-use lib.Dec.{lit<}
 use Rattle.bincode.specs.Numbers.{Edition}
 use Rattle.bincode.specs.Codes.{NumberCodes}
 use Rattle.bincode.specs.Causes.{NumberWrong, Causes, NumberCauses}
+use Rattle.bincode.proofs.CodeLaws.{four, eight}
 use Rattle.bincode.proofs.CauseLaws.{field, last, cases, unknown, accepted}
 use Rattle.honey_badger.proofs.ScheduleCauses.{schedule_causes}
 use Rattle.params.specs.declared.SubsetHandlingStrategy.TheVariants.{Incremental, AllAtEnd}
@@ -18,7 +18,7 @@ module _ (e : Edition) (v : NumberWrong) (s : List ℕ) (codes : NumberCodes e s
   pub strategy_causes : Causes s (read_strategy e s) (strategy_wrong e v s)
   unfolding read_strategy
   strategy_causes =
-      field (codes 4 (lit< tt)) (num 4 (lit< tt)) λ tag.
+      field (codes 4 four) (num 4 four) λ tag.
       cases tag 0 (accepted Incremental)
       (cases tag 1 (accepted AllAtEnd)
       (unknown 2 refl))
@@ -26,7 +26,7 @@ module _ (e : Edition) (v : NumberWrong) (s : List ℕ) (codes : NumberCodes e s
   pub params_causes : Causes s (read_params e s) (params_wrong e v s)
   unfolding read_params
   params_causes =
-      field (codes 8 (lit< tt)) (num 8 (lit< tt)) λ epochs.
+      field (codes 8 eight) (num 8 eight) λ epochs.
       field (strategy_codes e s codes) strategy_causes λ strategy.
       last (λ schedule. record { max_future_epochs = epochs; subset_handling_strategy = strategy; encryption_schedule = schedule })
       (schedule_causes e v s codes num)

@@ -7,7 +7,7 @@ use native.Mathlib.Omega.{arith}
 use lib.Dec.{lit<}
 use Rattle.bincode.specs.Numbers.{Edition}
 use Rattle.bincode.specs.Codes.{Codes, NumberCodes}
-use Rattle.bincode.proofs.CodeLaws.{field, ended, choose, none, restate, recode}
+use Rattle.bincode.proofs.CodeLaws.{four, eight, field, ended, choose, none, restate, recode}
 use Rattle.honey_badger.proofs.ScheduleCodes.{schedule_codes}
 use Rattle.params.specs.declared.SubsetHandlingStrategy.{SubsetHandlingStrategy}
 use Rattle.params.specs.declared.SubsetHandlingStrategy.TheVariants.{Incremental, AllAtEnd}
@@ -32,7 +32,7 @@ module _ (e : Edition) (s : List ℕ) (num : NumberCodes e s) where
   strategy_codes =
       recode (λ x o. append-nil (e.bytes 4 (strategy_tag x)))
       (restate (λ x o. tt) (λ x o. let t = tag_below x in (tt, (omega arith, tt)))
-      (field {H = λ x. Unit {0}} {Q = λ x. Unit {0}} strategy_tag (num 4 (lit< tt)) λ t.
+      (field {H = λ x. Unit {0}} {Q = λ x. Unit {0}} strategy_tag (num 4 four) λ t.
       choose t 0 (λ q. ended Incremental (tt, sym q) (λ x h. is_incremental x (h.1 ∙ q))) λ n0.
       choose t 1 (λ q. ended AllAtEnd (tt, sym q) (λ x h. is_all_at_end x (h.1 ∙ q))) λ n1.
       none 2 (λ x o. let b = tag_below x in let i = o.0.1 in omega arith)))
@@ -43,7 +43,7 @@ module _ (e : Edition) (s : List ℕ) (num : NumberCodes e s) where
       restate
       (λ p o. record { epochs_fit = o.1.0; schedule_ok = o.1.1.1.0 })
       (λ p o. (tt, (o.epochs_fit, (tt, (o.schedule_ok, tt)))))
-      (field {H = λ p. Unit {0}} (λ p. p.max_future_epochs) (num 8 (lit< tt)) λ epochs.
+      (field {H = λ p. Unit {0}} (λ p. p.max_future_epochs) (num 8 eight) λ epochs.
       field (λ p. p.subset_handling_strategy) strategy_codes λ strategy.
       field (λ p. p.encryption_schedule) (schedule_codes e s num) λ schedule.
       ended (record { max_future_epochs = epochs; subset_handling_strategy = strategy; encryption_schedule = schedule })

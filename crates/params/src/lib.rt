@@ -1,12 +1,11 @@
 // params.rs: the parameters of a network; and from epoch_state.rs the strategy, as plain data.
 #![tactic(auto)]
 
-ghost use Rattle.std.specs.Prelude.{◌≡◌, ◌≤◌, length};
+ghost use Rattle.std.specs.Prelude.{◌≡◌, ◌+◌};
 ghost use Rattle.bincode.specs.Answer.{answer};
-ghost use Rattle.bincode.specs.Numbers.{fixed};
 ghost use Rattle.params.specs.Params.{read_strategy, strategy_tag, read_params, params_bytes};
 
-use bincode::{Decoded, Encoded, Refusal};
+use bincode::{Decoded, Encoded, IntEncoding, Refusal};
 use honey_badger::EncryptionSchedule;
 
 #[derive(Clone, Copy, PartialEq, Eq)]
@@ -34,13 +33,14 @@ pub struct Params {
     pub encryption_schedule: EncryptionSchedule,
 }
 
-#[tactic(auto, using(bincode::proofs::NumberLaws::read_refused), unfolding(crate::specs::Params::read_strategy))]
-fn read_strategy(s: &[u8], at: usize) -> Result<(SubsetHandlingStrategy, usize), Refusal>
-    ensures { result ≡ answer (λ (x : SubsetHandlingStrategy). x) (read_strategy fixed s.now at) }
+#[tactic(auto, unfolding(crate::specs::Params::read_strategy))]
+fn read_strategy<E: IntEncoding>(
+    s: &[u8],
+    at: usize,
+) -> Result<(SubsetHandlingStrategy, usize), Refusal>
+    ensures { result ≡ answer (λ (x : SubsetHandlingStrategy). x) (read_strategy E.edition s.now at) }
 {
-    let Ok((tag, c)) = bincode::read_u32(s, at) else {
-        return Err(Refusal::Malformed);
-    };
+    let (tag, c) = E::read_u32(s, at)?;
     match tag {
         0 => Ok((SubsetHandlingStrategy::Incremental, c)),
         1 => Ok((SubsetHandlingStrategy::AllAtEnd, c)),
@@ -48,22 +48,20 @@ fn read_strategy(s: &[u8], at: usize) -> Result<(SubsetHandlingStrategy, usize),
     }
 }
 
-impl Decoded for Params {
+impl<E: IntEncoding> Decoded<E> for Params {
     ghost use Rattle.params.specs.declared.Params.{Params};
 
     ghost Value = { Params };
 
     ghost held = { λ x. x };
 
-    ghost read_at = { read_params fixed };
+    ghost read_at = { read_params E.edition };
 
-    #[tactic(auto, using(bincode::proofs::NumberLaws::read_refused), unfolding(crate::specs::Params::read_params))]
+    #[tactic(auto, unfolding(crate::specs::Params::read_params))]
     fn read(s: &[u8], at: usize) -> Result<(Self, usize), Refusal> {
-        let Ok((max_future_epochs, c)) = bincode::read_u64(s, at) else {
-            return Err(Refusal::Malformed);
-        };
-        let (subset_handling_strategy, d) = read_strategy(s, c)?;
-        let (encryption_schedule, e) = EncryptionSchedule::read(s, d)?;
+        let (max_future_epochs, c) = E::read_u64(s, at)?;
+        let (subset_handling_strategy, d) = read_strategy::<E>(s, c)?;
+        let (encryption_schedule, e) = <EncryptionSchedule as Decoded<E>>::read(s, d)?;
         Ok((
             Params {
                 max_future_epochs,
@@ -75,25 +73,24 @@ impl Decoded for Params {
     }
 }
 
-// How many bytes parameters take.
-#[tactic(auto, using(crate::proofs::ParamsLaws::length_params))]
-pub fn params_size(p: Params) -> usize
-    ensures { (result ≡ length (params_bytes fixed p)) × (result ≤ 24) }
-{
-    12 + honey_badger::schedule_size(p.encryption_schedule)
-}
+impl<E: IntEncoding> Encoded<E> for Params {
+    ghost bytes = { params_bytes E.edition };
 
-impl Encoded for Params {
-    ghost bytes = { params_bytes fixed };
+    ghost longest = { E.longest 8 + (E.longest 4 + ⟦<EncryptionSchedule as Encoded<E>>⟧.longest) };
 
-    #[tactic(auto, using(bincode::proofs::WriteLaws::size_told))]
+    #[tactic(auto, unfolding(crate::specs::Params::params_bytes, crate::specs::Params::strategy_bytes))]
     fn size(&self) -> usize {
-        params_size(*self)
+        let strategy = u32::from(self.subset_handling_strategy);
+        Encoded::<E>::size(&(self.max_future_epochs, strategy, self.encryption_schedule))
     }
 
     #[tactic(auto, unfolding(crate::specs::Params::params_bytes, crate::specs::Params::strategy_bytes))]
     fn write(&self, buf: &mut [u8], at: usize) -> usize {
         let strategy = u32::from(self.subset_handling_strategy);
-        (self.max_future_epochs, strategy, self.encryption_schedule).write(buf, at)
+        Encoded::<E>::write(
+            &(self.max_future_epochs, strategy, self.encryption_schedule),
+            buf,
+            at,
+        )
     }
 }

@@ -4,7 +4,7 @@ use Prim.Native.Nat.{ℕ, ◌<◌}
 use mathlib.Core.Path.{refl}
 use mathlib.Core.List.{List}
 use native.Mathlib.Omega.{arith}
-use lib.Dec.{ltb, eqb, lit<}
+use lib.Dec.{ltb, eqb}
 use borrow.Author.Tests.{ltb-true, ltb-false, eqb-true, eqb-false}
 use Rattle.bincode.specs.Numbers.{Edition}
 use Rattle.bincode.specs.Sizes.{Sizes}
@@ -12,6 +12,7 @@ use Rattle.bincode.specs.Items.{foldl}
 use Rattle.bincode.specs.Stands.{Each}
 use Rattle.bincode.specs.Codes.{NumberCodes}
 use Rattle.bincode.specs.Causes.{not_ascending, key_zero, count_over, NumberWrong, Causes, NumberCauses}
+use Rattle.bincode.proofs.CodeLaws.{four, eight}
 use Rattle.bincode.proofs.CauseLaws.{field, tested, accepted}
 use Rattle.bincode.proofs.RunCauses.{counted_causes, not_above}
 use Rattle.pub_key_map.specs.declared.Node.{Node}
@@ -24,12 +25,12 @@ module _ (e : Edition) (v : NumberWrong) (s : List ℕ) (codes : NumberCodes e s
   pub node_causes : (before : List Node) → Each following NodeOk 0 before → Causes s (read_node e s (foldl following 0 before)) (node_wrong e v s before)
   unfolding read_node
   node_causes before h =
-      field (codes 4 (lit< tt)) (num 4 (lit< tt)) λ id.
-      field (codes 8 (lit< tt)) (num 8 (lit< tt)) λ key.
+      field (codes 4 four) (num 4 four) λ id.
       let low = foldl following 0 before in
       let below = not_above following NodeOk (λ n. n.id) (λ l. l) (λ l n. refl) (λ l n o. o.ascends) 0 refl before h id in
       tested (ltb id low) not_ascending 2 refl
       (λ t. below.0 (ltb-true id low t)) (λ t p. let l = ltb-false id low t in let m = below.1 p in omega arith) λ t.
+      field (codes 8 eight) (num 8 eight) λ key.
       tested (eqb key 0) key_zero 2 refl (eqb-true key 0) (eqb-false key 0) λ u d.
       accepted (record { id = id; key = key }) d
 

@@ -1,35 +1,17 @@
--- Laws of maps: their length in bytes, and equality.
+-- Laws of maps: equality.
 -- Assumes nothing.
-use Prim.Native.Nat.{◌+◌, ◌*◌}
 use mathlib.Core.Path.{◌≡◌, refl}
-use mathlib.Core.List.{List, [], ◌∷◌}
+use mathlib.Core.List.{List}
 use mathlib.Core.Bool.{true}
-use native.Mathlib.Omega.{arith}
 use lib.Dec.{eqb}
-use lib.ListN.{length, length-append}
 use borrow.Author.Tests.{eq-eqb, eqb-true}
 use Rattle.lists.proofs.EqLaws.{eq_slices}
 use Rattle.lists.proofs.ListLaws.{and_both, eq_list_true, eq_list_refl}
-use Rattle.bincode.specs.Numbers.{fixed}
-use Rattle.bincode.specs.Stands.{concat_map}
-use Rattle.bincode.proofs.NumberLaws.{length_bytes_of}
 use Rattle.pub_key_map.specs.declared.Node.{Node}
 use Rattle.pub_key_map.specs.declared.PubKeyMap.{PubKeyMap}
 use Rattle.pub_key_map.specs.contracts.NodePartialEq.TheImpl.{eq-value}
 use Rattle.pub_key_map.specs.contracts.PubKeyMapPartialEq.TheImpl as map
-use Rattle.pub_key_map.specs.PubKeyMap.{nodes_of, same_node, same_nodes, node_bytes, map_bytes}
-
-pub length_node : (n : Node) → length (node_bytes fixed n) ≡ 12
-unfolding node_bytes
-length_node n = simp (length-append, length_bytes_of)
-
-length_nodes : (ns : List Node) → length (concat_map (node_bytes fixed) ns) ≡ 12 * length ns
-length_nodes [] = refl
-length_nodes (n ∷ ns) = simp (length-append, length_node, length_nodes ns) (omega arith)
-
-pub length_map : (ns : List Node) → length (map_bytes fixed ns) ≡ 8 + 12 * length ns
-unfolding map_bytes
-length_map ns = simp (length-append, length_bytes_of, length_nodes)
+use Rattle.pub_key_map.specs.PubKeyMap.{nodes_of, same_node, same_nodes}
 
 -- equality of maps is equality
 node_true : (a b : Node) → same_node a b ≡ true → a ≡ b

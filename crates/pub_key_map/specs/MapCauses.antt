@@ -8,13 +8,13 @@ use Rattle.pub_key_map.specs.declared.Node.{Node}
 use Rattle.pub_key_map.specs.PubKeyMap.{following, node_bytes, NodeOk}
 
 module _ (e : Edition) (v : NumberWrong) (s : List ℕ) where
-  -- id, then key; behind them: the id is not above those of the nodes before it, or the key is 0
+  -- an id, which is above those of the nodes before it; then a key, which is not 0
   abbrev pub node_wrong : List Node → Wrong
   node_wrong before =
       Number e v s 4 λ id.
-      Number e v s 8 λ key.
       Unless (NotAbove (λ n. n.id) before id) not_ascending
-      (Unless (key ≡ 0) key_zero Nothing)
+      (Number e v s 8 λ key.
+      Unless (key ≡ 0) key_zero Nothing)
 
   -- a count, which is not over its size, and as many nodes
   abbrev pub map_wrong : Sizes → Wrong

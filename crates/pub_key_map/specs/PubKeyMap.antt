@@ -32,13 +32,14 @@ same_node a b = eqb a.id b.id && eqb a.key b.key
 abbrev pub same_nodes : List Node → List Node → Bool
 same_nodes = eq_list same_node
 
--- an id from `low` on, with its key; 2 where the bytes are cut, the id is lower (row 2: not strictly ascending) or the key is 0
+-- an id from `low` on, with its key; 2 where the bytes are cut, the id is lower (row 2: not strictly ascending) or the key is 0.
+-- The id is judged before the key is read: 02, CR 5 has rows apply as the fields are read, and a key of the variable widths may be refused by 16.
 unfoldable pub read_node : Edition → List ℕ → ℕ → ℕ → Read Node
 read_node e s low at =
     bind (e.read 4 s at) λ id c.
-    bind (e.read 8 s c) λ key d.
     cond (ltb id low) (refuse 2)
-    (cond (eqb key 0) (refuse 2)
+    (bind (e.read 8 s c) λ key d.
+    cond (eqb key 0) (refuse 2)
     (value (record { id = id; key = key }) d))
 
 -- the least id that may follow

@@ -10,7 +10,7 @@ ghost use Rattle.pub_key_map.specs.declared.Node.{Node as NodeOf};
 ghost use Rattle.pub_key_map.specs.PubKeyMap.{id_of, nodes_of, map_held, read_node, read_map, node_bytes, map_bytes};
 
 use array_list::{ArrayList, Keyed};
-use bincode::{Decoded, Encoded, Refusal};
+use bincode::{Decoded, Encoded, FixintEncoding, IntEncoding, Refusal};
 
 // 01: a station's id and key.
 #[derive(Clone, Copy, PartialEq, Eq)]
@@ -74,42 +74,38 @@ impl PubKeyMap {
     }
 }
 
-// An id from `low` on, with its key.
-#[tactic(auto, using(bincode::proofs::NumberLaws::read_refused), unfolding(crate::specs::PubKeyMap::read_node))]
-fn read_node(s: &[u8], at: usize, low: u64) -> Result<(Node, usize), Refusal>
-    ensures { result ≡ answer (λ (x : NodeOf). x) (read_node fixed s.now low at) }
+// An id from `low` on, with its key: the id is judged before the key is read.
+#[tactic(auto, unfolding(crate::specs::PubKeyMap::read_node))]
+fn read_node<E: IntEncoding>(s: &[u8], at: usize, low: u64) -> Result<(Node, usize), Refusal>
+    ensures { result ≡ answer (λ (x : NodeOf). x) (read_node E.edition s.now low at) }
 {
-    let Ok((id, c)) = bincode::read_u32(s, at) else {
-        return Err(Refusal::Malformed);
-    };
-    let Ok((key, d)) = bincode::read_u64(s, c) else {
-        return Err(Refusal::Malformed);
-    };
+    let (id, c) = E::read_u32(s, at)?;
     if u64::from(id) < low {
         return Err(Refusal::Malformed); // ids not strictly ascending
     }
+    let (key, d) = E::read_u64(s, c)?;
     if key == 0 {
         return Err(Refusal::Malformed); // key 0
     }
     Ok((Node { id, key }, d))
 }
 
-impl Decoded for PubKeyMap {
+impl<E: IntEncoding> Decoded<E> for PubKeyMap {
     ghost Value = { List NodeOf };
 
     ghost held = { map_held };
 
-    ghost read_at = { read_map fixed base };
+    ghost read_at = { read_map E.edition base };
 
     #[tactic(auto, unfolding(crate::specs::PubKeyMap::read_map, bincode::specs::Items::counted, bincode::specs::Items::read_count))]
     fn read(s: &[u8], at: usize) -> Result<(Self, usize), Refusal> {
-        let (n, first) = bincode::read_count(s, at, PubKeyMap::LIMIT as u64)?;
+        let (n, first) = bincode::read_count::<E>(s, at, PubKeyMap::LIMIT as u64)?;
         let count = n as usize;
         let mut nodes = [Node { id: 0, key: 0 }; PubKeyMap::LIMIT];
         let mut low: u64 = 0;
         let mut c = first;
         for node in nodes[..count].iter_mut() {
-            let (e, next) = read_node(s, c, low)?;
+            let (e, next) = read_node::<E>(s, c, low)?;
             *node = e;
             low = u64::from(e.id) + 1;
             c = next;
@@ -123,47 +119,55 @@ impl Decoded for PubKeyMap {
 pub fn check_map(s: &[u8], at: usize) -> Result<usize, Refusal>
     ensures { result ≡ step_of (read_map fixed base s.now at) }
 {
-    let (count, first) = bincode::read_count(s, at, PubKeyMap::LIMIT as u64)?;
+    let (count, first) = bincode::read_count::<FixintEncoding>(s, at, PubKeyMap::LIMIT as u64)?;
     let mut low: u64 = 0;
     let mut c = first;
     for _ in 0..count {
-        let (node, next) = read_node(s, c, low)?;
+        let (node, next) = read_node::<FixintEncoding>(s, c, low)?;
         low = u64::from(node.id) + 1;
         c = next;
     }
     Ok(c)
 }
 
-// How many bytes a map takes.
-#[tactic(auto, using(crate::proofs::MapLaws::length_map))]
-pub fn map_size(m: PubKeyMap) -> usize
-    ensures { (result ≡ length (map_bytes fixed (nodes_of m))) × (result ≤ 8 + 12 * base.nodes) }
-{
-    8 + 12 * m.len()
-}
+impl<E: IntEncoding> Encoded<E> for Node {
+    ghost bytes = { node_bytes E.edition };
 
-#[tactic(auto, unfolding(crate::specs::PubKeyMap::node_bytes))]
-fn write_node(buf: &mut [u8], at: usize, n: Node) -> usize
-    ensures { (buf.new ≡ written buf.old at (node_bytes fixed n)) × (result ≡ written_to buf.old at (node_bytes fixed n)) }
-{
-    (n.id, n.key).write(buf, at)
-}
+    ghost longest = { E.longest 4 + E.longest 8 };
 
-impl Encoded for PubKeyMap {
-    ghost bytes = { λ m. map_bytes fixed (nodes_of m) };
-
-    #[tactic(auto, using(bincode::proofs::WriteLaws::size_told))]
+    #[tactic(auto, unfolding(crate::specs::PubKeyMap::node_bytes))]
     fn size(&self) -> usize {
-        map_size(*self)
+        Encoded::<E>::size(&(self.id, self.key))
+    }
+
+    #[tactic(auto, unfolding(crate::specs::PubKeyMap::node_bytes))]
+    fn write(&self, buf: &mut [u8], at: usize) -> usize {
+        Encoded::<E>::write(&(self.id, self.key), buf, at)
+    }
+}
+
+impl<E: IntEncoding> Encoded<E> for PubKeyMap {
+    ghost bytes = { λ m. map_bytes E.edition (nodes_of m) };
+
+    ghost longest = { E.longest 8 + base.nodes * (E.longest 4 + E.longest 8) };
+
+    #[tactic(auto, unfolding(crate::specs::PubKeyMap::map_bytes))]
+    fn size(&self) -> usize {
+        // what the numbers of an edition take is bounded by the edition alone, so the sum is told as far as a usize tells it
+        let mut size = E::size_u64(self.len() as u64);
+        for x in self.nodes.as_slice() {
+            size = size.saturating_add(Encoded::<E>::size(x));
+        }
+        size
     }
 
     #[tactic(auto, unfolding(bincode::specs::Writing::written, bincode::specs::Writing::written_to))]
     fn write(&self, buf: &mut [u8], at: usize) -> usize {
-        if bincode::room(buf.len(), at, map_size(*self)) {
+        if bincode::room(buf.len(), at, Encoded::<E>::size(self)) {
             let n = self.len();
-            let mut c = bincode::write_u64(buf, at, n as u64);
+            let mut c = E::write_u64(buf, at, n as u64);
             for x in self.nodes.as_slice() {
-                c = write_node(buf, c, *x);
+                c = Encoded::<E>::write(x, buf, c);
             }
             c
         } else {

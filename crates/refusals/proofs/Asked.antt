@@ -39,7 +39,7 @@ module _ (z : Sizes) (buffer : List ℕ) (b : BatchOf) (set : ℕ) where
 
   pub plan_rows_lem : refusal_of (plan_answered z buffer b set) ≡ first_row (plan_rows z buffer b)
   unfolding plan_answered plan_rows plan_said first_row
-  plan_rows_lem = go (row1 z buffer) (changed b.change) (no_next b)
+  plan_rows_lem = go (row1 z.plan buffer) (changed b.change) (no_next b)
     where
       go : (r1 c r5 : Bool) → refusal_of (said r1 c r5 (length (plan_bytes fixed (plan_of_batch b set)))) ≡ cond r1 (found 1) (cond (c && r5) (found 5) nothing)
       go true c r5 = refl
@@ -50,10 +50,10 @@ module _ (z : Sizes) (buffer : List ℕ) (b : BatchOf) (set : ℕ) where
   -- a refusal leaves the buffer as it was
   pub plan_refused : (n : ℕ) → plan_answered z buffer b set ≡ refused n → plan_left z buffer b set ≡ buffer
   unfolding plan_answered plan_left plan_said
-  plan_refused n = go (row1 z buffer) (changed b.change) (no_next b)
+  plan_refused n = go (row1 z.plan buffer) (changed b.change) (no_next b)
     where
       go : (r1 c r5 : Bool) → said r1 c r5 (length (plan_bytes fixed (plan_of_batch b set))) ≡ refused n
-          → cond r1 buffer (cond c (cond r5 buffer (plan_written z buffer (plan_of_batch b set))) buffer) ≡ buffer
+          → cond r1 buffer (cond c (cond r5 buffer (plan_written fixed z.plan buffer (plan_of_batch b set))) buffer) ≡ buffer
       go true c r5 e = refl
       go false true true e = refl
       go false true false e = absurd (never (ap refusal_of e))
@@ -65,9 +65,9 @@ module _ (z : Sizes) where
   unfolding plan_read_rows
   plan_read_rows_lem bytes = by_read refusal_of_read (λ x. []) (whole (read_plan fixed z bytes) bytes) (whole_plan bytes z) (λ n. refl) (λ p c u. no_row)
 
-  pub plan_written_rows_lem : (buffer : List ℕ) (p : PlanOf) → refusal_of (plan_said z buffer p) ≡ first_row (plan_written_rows z buffer)
+  pub plan_written_rows_lem : (buffer : List ℕ) (p : PlanOf) → refusal_of (plan_said fixed z.plan buffer p) ≡ first_row (plan_written_rows z buffer)
   unfolding plan_said plan_written_rows
-  plan_written_rows_lem buffer p = by_row refusal_of 1 (row1 z buffer) _ _ _ refl no_row
+  plan_written_rows_lem buffer p = by_row refusal_of 1 (row1 z.plan buffer) _ _ _ refl no_row
 
 -- `next_epoch`
 pub next_rows_lem : (s : StateOf) (inner : ℕ) → refusal_of (next_epoch s inner) ≡ first_row (next_rows s inner)

@@ -12,7 +12,7 @@ use borrow.Author.Tests.{eqb-true, eqb-false, eq-eqb}
 use Rattle.lists.specs.Lists.{Found, found}
 use Rattle.bincode.specs.Read.{Read, value, refuse}
 use Rattle.bincode.specs.Stands.{Bytes, All}
-use Rattle.bincode.specs.Causes.{Cause, cut, left_over, unknown_tag, not_ascending, key_zero, count_over, total_over, too_long, cause_number, Caused}
+use Rattle.bincode.specs.Causes.{Cause, key_zero, cause_number, Caused}
 use Rattle.bincode.proofs.ReadLaws.{clash}
 use Rattle.refusals.specs.Table.{Row, row, first_row, reads_to}
 use Rattle.refusals.specs.Causes.{Causing, By, NoCause, Then, in_first, in_next, KeyWrong}
@@ -27,24 +27,14 @@ module _ {A : Type 0} {s : List ℕ} {W : Causing} where
       to (value a d) e p = let z : ◌≡◌ {A = ℕ} 0 1 = ap (λ (t : Bool). cond t 1 0) p in absurd (let y : ⊥ = omega arith in y)
       to (refuse m) e p = k.cause b n (e ∙ ap refuse (eqb-true m n p))
 
--- a cause has one of two numbers
-two_or_three : (c : Cause) → (cause_number c ≡ 2) ⊎ (cause_number c ≡ 3)
-two_or_three cut = inl refl
-two_or_three left_over = inl refl
-two_or_three unknown_tag = inl refl
-two_or_three not_ascending = inl refl
-two_or_three key_zero = inl refl
-two_or_three count_over = inr refl
-two_or_three total_over = inr refl
-two_or_three too_long = inr refl
-
 -- The first row that holds. What comes behind a row is asked for where the row does not hold.
 module _ (n : ℕ) where
-  -- reading
-  pub read_rows : {A : Type 0} {s : List ℕ} {W X : Causing} (x : Read A) → Caused s x W → Bytes s → (rs : List Row) → (first_row rs ≡ found n) ↔ By n X
+  -- reading, which refuses with 2 or 3
+  pub read_rows : {A : Type 0} {s : List ℕ} {W X : Causing} (x : Read A) → Caused s x W → ((i : ℕ) → x ≡ refuse i → (i ≡ 2) ⊎ (i ≡ 3)) → Bytes s
+      → (rs : List Row) → (first_row rs ≡ found n) ↔ By n X
       → (first_row (row 2 (reads_to 2 x) ∷ row 3 (reads_to 3 x) ∷ rs) ≡ found n) ↔ By n (Then W X)
   unfolding first_row
-  read_rows {A} {s} {W} {X} (value a d) k b rs r = (λ e. let w = r.0 e in (w.0, in_next none w.1, w.2), λ w. r.1 (w.0, from w.0 w.1, w.2))
+  read_rows {A} {s} {W} {X} (value a d) k two_or_three b rs r = (λ e. let w = r.0 e in (w.0, in_next none w.1, w.2), λ w. r.1 (w.0, from w.0 w.1, w.2))
     where
       none : (c : Cause) → W c → ⊥
       none c w = clash (value a d) refl (k.refuses c w)
@@ -52,17 +42,17 @@ module _ (n : ℕ) where
       from : (c : Cause) → Then W X c → X c
       from c (in_first w) = absurd (none c w)
       from c (in_next no-w w) = w
-  read_rows {A} {s} {W} {X} (refuse m) k b rs r = (λ e. to (sym (answer m here) ∙ e), λ w. answer m here ∙ ap found (from w.0 w.1 ∙ w.2))
+  read_rows {A} {s} {W} {X} (refuse m) k two_or_three b rs r = (λ e. to (sym (answer m here) ∙ e), λ w. answer m here ∙ ap found (from w.0 w.1 ∙ w.2))
     where
       here : By m W
       here = k.cause b m refl
 
       answer : (i : ℕ) → By i W → first_row (row 2 (eqb i 2) ∷ row 3 (eqb i 3) ∷ rs) ≡ found i
-      answer i w = go (two_or_three w.0)
+      answer i w = go (two_or_three i (k.refuses w.0 w.1 ∙ ap refuse w.2))
         where
-          go : (cause_number w.0 ≡ 2) ⊎ (cause_number w.0 ≡ 3) → first_row (row 2 (eqb i 2) ∷ row 3 (eqb i 3) ∷ rs) ≡ found i
-          go (inl q) = rw (sym w.2 ∙ q)
-          go (inr q) = rw (sym w.2 ∙ q)
+          go : (i ≡ 2) ⊎ (i ≡ 3) → first_row (row 2 (eqb i 2) ∷ row 3 (eqb i 3) ∷ rs) ≡ found i
+          go (inl q) = rw q
+          go (inr q) = rw q
 
       to : found m ≡ found n → By n (Then W X)
       to e = let q : m ≡ n = cc in (here.0, in_first here.1, here.2 ∙ q)

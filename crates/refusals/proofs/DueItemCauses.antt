@@ -4,12 +4,11 @@ use Prim.Native.Nat.{ℕ, ◌^◌, ◌<◌}
 use mathlib.Core.Path.{◌≡◌, refl, sym, ◌∙◌}
 use mathlib.Core.List.{List}
 use native.Mathlib.Omega.{arith}
-use lib.Dec.{lit<}
 use Rattle.bincode.specs.Sizes.{Sizes}
 use Rattle.bincode.specs.Codes.{Codes}
 use Rattle.bincode.specs.Causes.{Causes}
 use Rattle.bincode.proofs.CodeLaws as codes
-use Rattle.bincode.proofs.CodeLaws.{fixed_codes, choose, none, restate, recode}
+use Rattle.bincode.proofs.CodeLaws.{four, fixed_codes, choose, none, restate, recode}
 use Rattle.bincode.proofs.CauseLaws.{field, cases, unknown, fixed_causes}
 use Rattle.message.specs.Message.{MessageContent, key_gen, signed_vote, content_bytes, ContentOk}
 use Rattle.message.proofs.ContentCodes.{tag_of, tag_below, tag_behind, key_gen_codes}
@@ -33,7 +32,7 @@ module _ (s : List ℕ) (z : Sizes) where
     due_item_codes =
         recode (λ x o. tag_behind x)
         (restate (λ x o. o.1.1) (λ x o. let t = tag_below x in (tt, (omega arith, o)))
-        (codes.field {H = λ x. Unit {0}} {Q = DueItemOk s z} tag_of (fixed_codes s 4 (lit< tt)) λ t.
+        (codes.field {H = λ x. Unit {0}} {Q = DueItemOk s z} tag_of (fixed_codes s 4 four) λ t.
         choose t 1
         (λ q.
         restate (λ x o. (o.0, tag_due x (o.0.1 ∙ q) o.1)) (λ x o. (o.0, (due_tag x o.1).1))
@@ -43,6 +42,6 @@ module _ (s : List ℕ) (z : Sizes) where
   pub due_item_causes : z.rows < 256 ^ 8 → Causes s (read_due_item z s) (due_item_wrong s z)
   unfolding read_due_item
   due_item_causes rows_fit =
-      field (fixed_codes s 4 (lit< tt)) (fixed_causes s 4 (lit< tt)) λ tag.
+      field (fixed_codes s 4 four) (fixed_causes s 4 four) λ tag.
       cases tag 1 (key_gen_causes s z rows_fit)
       (unknown 2 refl)

@@ -1,5 +1,5 @@
 -- Each entry refuses with 2 or 3 exactly where its inputs, in the order in which they are looked at, have a cause with that number. Row 1 comes before them. A batch
--- is refused with 15 exactly where no row before it holds and its era is not the engine's (02, CR 1).
+-- is refused with 15 exactly where no row before it holds and its era is not the engine's (02, CR 1). A conversion has its causes with every number, 16 too (02, CR 5).
 -- Assumes nothing.
 use Prim.Native.Nat.{ℕ, ◌^◌, ◌≤◌, ◌<◌}
 use mathlib.Core.Path.{◌≡◌, refl, sym, ap, ◌∙◌}
@@ -7,18 +7,21 @@ use mathlib.Core.Logic.{◌↔◌, ⊎_elim}
 use mathlib.Core.List.{List}
 use mathlib.Core.Bool.{false, ◌||◌}
 use lib.Dec.{lit<, eqb}
+use lib.ListN.{length}
 use borrow.Author.Tests.{eqb-false}
 use Rattle.lists.proofs.ListLaws.{false_true}
 use Rattle.lists.specs.Lists.{found}
 use Rattle.bincode.specs.Read.{Read, value, refuse, whole}
 use Rattle.bincode.specs.Outcome.{Outcome, done, refused}
-use Rattle.bincode.specs.Numbers.{fixed}
+use Rattle.bincode.specs.Numbers.{fixed, variable}
 use Rattle.bincode.specs.Sizes.{Sizes}
 use Rattle.bincode.specs.Stands.{Bytes}
-use Rattle.bincode.specs.Causes.{Cause, Short, Caused}
+use Rattle.bincode.specs.Causes.{Cause, Short, Garbled, Caused}
 use Rattle.bincode.proofs.ReadLaws.{clash}
 use Rattle.bincode.proofs.CodeLaws.{fixed_codes}
 use Rattle.bincode.proofs.CauseLaws.{fixed_causes, whole_causes}
+use Rattle.bincode.proofs.VariableLaws.{variable_codes}
+use Rattle.bincode.proofs.VariableCauses.{variable_causes}
 use Rattle.pub_key_map.specs.PubKeyMap.{read_map}
 use Rattle.pub_key_map.proofs.MapCodes.{map_codes}
 use Rattle.pub_key_map.proofs.MapCauses.{map_causes}
@@ -28,9 +31,10 @@ use Rattle.params.proofs.ParamsCauses.{params_causes}
 use Rattle.change.specs.Change.{read_change}
 use Rattle.change.proofs.ChangeCodes.{change_codes}
 use Rattle.change.proofs.ChangeCauses.{change_causes}
-use Rattle.join_plan.specs.JoinPlan.{read_plan}
+use Rattle.join_plan.specs.JoinPlan.{read_plan, to_variable_said, to_fixed_said}
 use Rattle.join_plan.proofs.PlanCodes.{plan_codes}
 use Rattle.join_plan.proofs.PlanCauses.{plan_causes}
+use Rattle.join_plan.proofs.PageConversionLaws.{conversion_caused}
 use Rattle.joining.specs.Starting.{join_row1}
 use Rattle.message.specs.Message.{read_message}
 use Rattle.message.proofs.ContentCodes.{content_codes}
@@ -50,8 +54,9 @@ use Rattle.agreement.specs.Hypotheses.{FullBatch}
 use Rattle.agreement.proofs.CountLaws.{reading_refuses}
 use Rattle.agreement.proofs.FullLaws.{full_shared, shared_full}
 use Rattle.refusals.specs.Table.{refusal_of, refusal_in, start_rows, join_rows, vote_rows, add_rows, message_rows, due_rows, batch_rows}
-use Rattle.refusals.specs.Causes.{By, KeyWrong, ParamsWrong, MapWrong, ChangeWrong, PlanWrong, MessageWrong, DueItemWrong, StartWrong, JoinWrong}
+use Rattle.refusals.specs.Causes.{By, KeyWrong, ParamsWrong, MapWrong, ChangeWrong, PlanWrong, NewPlanWrong, MessageWrong, DueItemWrong, StartWrong, JoinWrong}
 use Rattle.refusals.proofs.FirstRow.{never}
+use Rattle.refusals.proofs.Reading.{refuses_2_or_3, whole_params, whole_map, whole_plan, whole_change, whole_message, whole_due_item}
 use Rattle.refusals.proofs.Refused.{started_rows, joined_rows, vote_rows_lem, add_rows_lem, message_rows_lem, due_rows_lem, batch_rows_lem}
 use Rattle.refusals.proofs.DueItemCauses.{due_item_codes, due_item_causes}
 use Rattle.refusals.proofs.CauseRows.{read_rows, key_rows, higher_rows, last_rows, passed_row, by_rows}
@@ -86,8 +91,8 @@ module _ (z : Sizes) (nodes-fit : z.nodes < 256 ^ 8) (n : ℕ) (low : n ≤ 3) w
   unfolding start_rows
   new_caused id key era map params m p =
       by_rows n (started_rows z key map params id era)
-      (read_rows n _ (map_caused map z nodes-fit) m _
-      (read_rows n _ (params_caused params) p _
+      (read_rows n _ (map_caused map z nodes-fit) (refuses_2_or_3 _ _ (whole_map map z)) m _
+      (read_rows n _ (params_caused params) (refuses_2_or_3 _ _ (whole_params params)) p _
       (last_rows n (key_rows n key _ (higher_rows n low _ (lit< tt, tt))))))
 
   -- joining
@@ -97,7 +102,7 @@ module _ (z : Sizes) (nodes-fit : z.nodes < 256 ^ 8) (n : ℕ) (low : n ≤ 3) w
   join_caused places id key plan p h =
       by_rows n (joined_rows z places id key plan)
       (passed_row n 1 (join_row1 z places) h _
-      (read_rows n _ (plan_caused plan z nodes-fit) p _
+      (read_rows n _ (plan_caused plan z nodes-fit) (refuses_2_or_3 _ _ (whole_plan plan z)) p _
       (last_rows n (key_rows n key _ (higher_rows n low _ (lit< tt, (lit< tt, (lit< tt, tt))))))))
 
   module _ (s : StateOf) where
@@ -105,7 +110,7 @@ module _ (z : Sizes) (nodes-fit : z.nodes < 256 ^ 8) (n : ℕ) (low : n ≤ 3) w
     pub vote_caused : (change : List ℕ) → Bytes change → (refusal_of (vote_for_bytes z s change).answer ≡ found n) ↔ By n (ChangeWrong change z)
     unfolding vote_rows
     vote_caused change b =
-        by_rows n (vote_rows_lem z s change) (last_rows n (read_rows n _ (change_caused change z nodes-fit) b _ (higher_rows n low _ (lit< tt, tt))))
+        by_rows n (vote_rows_lem z s change) (last_rows n (read_rows n _ (change_caused change z nodes-fit) (refuses_2_or_3 _ _ (whole_change change z)) b _ (higher_rows n low _ (lit< tt, tt))))
 
     -- `vote_to_add`
     pub add_caused : (id key : ℕ) → (refusal_of (vote_to_add z s id key).answer ≡ found n) ↔ By n (KeyWrong key)
@@ -118,13 +123,13 @@ module _ (z : Sizes) (nodes-fit : z.nodes < 256 ^ 8) (n : ℕ) (low : n ≤ 3) w
       unfolding message_rows
       received_caused sender bytes b =
           by_rows n (message_rows_lem z s sender bytes)
-          (last_rows n (read_rows n _ (message_caused bytes z nodes-fit rows_fit) b _ (higher_rows n low _ (lit< tt, tt))))
+          (last_rows n (read_rows n _ (message_caused bytes z nodes-fit rows_fit) (refuses_2_or_3 _ _ (whole_message bytes z)) b _ (higher_rows n low _ (lit< tt, tt))))
 
       -- a due item handed back
       pub returned_caused : (bytes : List ℕ) → Bytes bytes → (refusal_in (returned z s bytes).effect ≡ found n) ↔ By n (DueItemWrong bytes z)
       unfolding due_rows
       returned_caused bytes b =
-          by_rows n (due_rows_lem z s bytes) (last_rows n (read_rows n _ (due_item_caused bytes z nodes-fit rows_fit) b _ (higher_rows n low _ (lit< tt, tt))))
+          by_rows n (due_rows_lem z s bytes) (last_rows n (read_rows n _ (due_item_caused bytes z nodes-fit rows_fit) (refuses_2_or_3 _ _ (whole_due_item bytes z)) b _ (higher_rows n low _ (lit< tt, tt))))
 
       -- a batch
       pub batch_caused : z.user < 256 ^ 8 → (b : BatchCall) → Bytes b.bytes → batch_row1 z b.fault_places b.due_places ≡ false
@@ -134,7 +139,7 @@ module _ (z : Sizes) (nodes-fit : z.nodes < 256 ^ 8) (n : ℕ) (low : n ≤ 3) w
           by_rows n (batch_rows_lem z s b)
           (passed_row n 1 (batch_row1 z b.fault_places b.due_places) h _
           (last_rows n
-          (read_rows n _ (batch_causes z nodes-fit rows_fit user-fits b.bytes) bytes _
+          (read_rows n _ (batch_causes z nodes-fit rows_fit user-fits b.bytes) (reading_refuses z b.bytes) bytes _
           (higher_rows n low _ (lit< tt, (lit< tt, (lit< tt, (lit< tt, (lit< tt, tt)))))))))
 
 -- the companion of the look-up refuses as a batch is refused, with every number
@@ -194,3 +199,20 @@ module _ (z : Sizes) (nodes-fit : z.nodes < 256 ^ 8) (rows_fit : z.rows < 256 ^ 
     (λ e. (shared_full z s b (not_own (processed z s b).answer e), (era_cause e).0, (era_cause e).1)),
     (λ h. era_answer h.1 h.2 (full_shared z s b h.0)),
   )
+
+-- A conversion of a join plan (02, CR 5), with room for it: with every number, of the new edition 16 too. Where there is no room it is 1 (`row_one` of join_plan).
+module _ (n : ℕ) where
+  told : (x : Outcome ℕ) → refusal_of x ≡ found n → x ≡ refused n
+  told (done k) e = absurd (never e)
+  told (refused k) e = let q : k ≡ n = cc in ap refused q
+
+  as_told : {P : Type 0} (x : Outcome ℕ) → (x ≡ refused n) ↔ P → (refusal_of x ≡ found n) ↔ P
+  as_told x r = (λ e. r.0 (told x e), λ p. ap refusal_of (r.1 p))
+
+  module _ (z : Sizes) (nodes-fit : z.nodes < 256 ^ 8) (plan buffer : List ℕ) (bytes : Bytes plan) where
+    pub to_variable_caused : z.variable_plan ≤ length buffer
+        → (refusal_of (to_variable_said z plan buffer) ≡ found n) ↔ By n (PlanWrong plan z)
+    to_variable_caused long = as_told _ (conversion_caused fixed Short plan (fixed_codes plan) (fixed_causes plan) z nodes-fit bytes variable z.variable_plan buffer n long)
+
+    pub to_fixed_caused : z.plan ≤ length buffer → (refusal_of (to_fixed_said z plan buffer) ≡ found n) ↔ By n (NewPlanWrong plan z)
+    to_fixed_caused long = as_told _ (conversion_caused variable Garbled plan (variable_codes plan) (variable_causes plan) z nodes-fit bytes fixed z.plan buffer n long)

@@ -4,6 +4,7 @@ pub mod Rows
 pub mod Refused
 pub mod Kept
 pub mod Asked
+pub mod Converted
 pub mod DueItemCauses
 pub mod CauseRows
 pub mod EntryCauses

@@ -9,18 +9,20 @@ use native.Mathlib.Omega.{arith}
 use Rattle.lists.specs.Lists.{Found, found}
 use Rattle.bincode.specs.Read.{Read, refuse}
 use Rattle.bincode.specs.Outcome.{Outcome, done, refused}
+use Rattle.bincode.specs.Numbers.{fixed, variable}
 use Rattle.bincode.specs.Sizes.{Sizes}
 use Rattle.internal_contrib.specs.InternalContrib.{ContribOf, read_batch}
 use Rattle.internal_contrib.specs.Places.{user_of, contributed}
 use Rattle.reference.specs.Reference.{RefState}
 use Rattle.reference.specs.Step.{RefReport, SharedBatch, ref_step}
 use Rattle.reference.proofs.ReportLaws.{refused_by_reading_5_or_7}
-use Rattle.refusals.specs.Table.{Row, first_row, refusal_of, start_rows, join_rows, vote_rows, add_rows, remove_rows, message_rows, due_rows, batch_rows, plan_rows, plan_read_rows, plan_written_rows, next_rows, schedule_rows, lookup_rows}
+use Rattle.refusals.specs.Table.{Row, first_row, refusal_of, start_rows, join_rows, vote_rows, add_rows, remove_rows, message_rows, due_rows, batch_rows, plan_rows, plan_read_rows, plan_written_rows, convert_rows, next_rows, schedule_rows, lookup_rows}
 use Rattle.refusals.specs.NeverSix.{six, NeverSix}
 use Rattle.refusals.proofs.FirstRow.{never, unanswered, unanswered_never}
 use Rattle.refusals.proofs.Reading.{refuses_2_or_3, whole_batch}
 use Rattle.refusals.proofs.Refused.{started_rows, joined_rows, vote_rows_lem, add_rows_lem, remove_rows_lem, message_rows_lem, due_rows_lem, batch_rows_lem}
 use Rattle.refusals.proofs.Asked.{plan_rows_lem, plan_read_rows_lem, plan_written_rows_lem, next_rows_lem, schedule_rows_lem, lookup_rows_lem}
+use Rattle.refusals.proofs.Converted.{to_variable_rows, to_fixed_rows}
 
 -- an entry that answers by its rows, none of which is a row 6 that holds
 by_table : {x : Found ℕ} (rs : List Row) → x ≡ first_row rs → unanswered six rs ≡ true → x ≡ found six → ⊥
@@ -56,7 +58,7 @@ reference_never z s b (refused n) p e =
 
 -- every entry
 pub no_call_returns_6 : NeverSix
-unfolding unanswered start_rows join_rows vote_rows add_rows remove_rows message_rows due_rows batch_rows plan_rows plan_read_rows plan_written_rows next_rows schedule_rows lookup_rows
+unfolding unanswered start_rows join_rows vote_rows add_rows remove_rows message_rows due_rows batch_rows plan_rows plan_read_rows plan_written_rows convert_rows next_rows schedule_rows lookup_rows
 no_call_returns_6 =
     record {
       batch = λ z s b. by_table (batch_rows z s b) (batch_rows_lem z s b) refl;
@@ -70,6 +72,8 @@ no_call_returns_6 =
       join_plan = λ z buffer b set. by_table (plan_rows z buffer b) (plan_rows_lem z buffer b set) refl;
       plan_read = λ z bytes. by_table (plan_read_rows z bytes) (plan_read_rows_lem z bytes) refl;
       plan_written = λ z buffer p. by_table (plan_written_rows z buffer) (plan_written_rows_lem z buffer p) refl;
+      to_fixed = λ z plan buffer. by_table (convert_rows variable z.plan z plan buffer) (to_fixed_rows z plan buffer) refl;
+      to_variable = λ z plan buffer. by_table (convert_rows fixed z.variable_plan z plan buffer) (to_variable_rows z plan buffer) refl;
       next_epoch = λ s inner. by_table (next_rows s inner) (next_rows_lem s inner) refl;
       schedule = λ x epoch. by_table (schedule_rows x) (schedule_rows_lem x epoch) refl;
       has_contribution = λ z bytes id. by_table (lookup_rows z bytes) (lookup_rows_lem z bytes id) refl;

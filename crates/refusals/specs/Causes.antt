@@ -1,8 +1,8 @@
--- 01, rows 2 and 3 of each entry by their cause: what is wrong with a call's inputs, in the order in which they are looked at.
+-- 01, rows 2 and 3 of each entry by their cause, and 16 of a conversion: what is wrong with a call's inputs, in the order in which they are looked at.
 use Rattle.std.specs.Prelude.{ℕ, ◌≡◌, List}
-use Rattle.bincode.specs.Numbers.{fixed}
+use Rattle.bincode.specs.Numbers.{fixed, variable}
 use Rattle.bincode.specs.Sizes.{Sizes}
-use Rattle.bincode.specs.Causes.{Cause, key_zero, cause_number, Wrong, Unknown, Short, Case, Whole, Number}
+use Rattle.bincode.specs.Causes.{Cause, key_zero, cause_number, Wrong, Unknown, Short, Garbled, Case, Whole, Number}
 use Rattle.pub_key_map.specs.PubKeyMap.{map_bytes, MapOk}
 use Rattle.pub_key_map.specs.MapCauses.{map_wrong}
 use Rattle.params.specs.Params.{params_bytes, ParamsOk}
@@ -48,6 +48,10 @@ module _ (s : List ℕ) where
 
     abbrev pub PlanWrong : Causing
     PlanWrong = Whole s (plan_bytes fixed) (PlanOk z) (plan_wrong fixed Short s z)
+
+    -- a plan of the new edition, where row 16 has its causes (02, CR 5)
+    abbrev pub NewPlanWrong : Causing
+    NewPlanWrong = Whole s (plan_bytes variable) (PlanOk z) (plan_wrong variable Garbled s z)
 
     abbrev pub MessageWrong : Causing
     MessageWrong = Whole s content_bytes (ContentOk z) (content_wrong z s)

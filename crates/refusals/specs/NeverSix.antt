@@ -7,7 +7,7 @@ use Rattle.bincode.specs.Numbers.{fixed}
 use Rattle.bincode.specs.Sizes.{Sizes}
 use Rattle.honey_badger.specs.declared.EncryptionSchedule.{EncryptionSchedule}
 use Rattle.honey_badger.specs.EncryptionSchedule.{use_on_epoch}
-use Rattle.join_plan.specs.JoinPlan.{PlanOf, read_plan, plan_said}
+use Rattle.join_plan.specs.JoinPlan.{PlanOf, read_plan, plan_said, to_variable_said, to_fixed_said}
 use Rattle.batch.specs.Batch.{BatchOf, plan_answered}
 use Rattle.internal_contrib.specs.InternalContrib.{read_batch}
 use Rattle.internal_contrib.specs.Places.{user_of, contributed}
@@ -37,7 +37,10 @@ pub record NoCallReturns (number : ℕ) : Type 0 where
   -- `join_plan`; reading a plan, writing one
   pub join_plan : (z : Sizes) (buffer : List ℕ) (b : BatchOf) (set : ℕ) → refusal_of (plan_answered z buffer b set) ≡ found number → ⊥
   pub plan_read : (z : Sizes) (bytes : List ℕ) → refusal_of_read (whole (read_plan fixed z bytes) bytes) ≡ found number → ⊥
-  pub plan_written : (z : Sizes) (buffer : List ℕ) (p : PlanOf) → refusal_of (plan_said z buffer p) ≡ found number → ⊥
+  pub plan_written : (z : Sizes) (buffer : List ℕ) (p : PlanOf) → refusal_of (plan_said fixed z.plan buffer p) ≡ found number → ⊥
+  -- 02, CR 5: `to_fixed`, `to_variable`, each with the room of the edition that it writes
+  pub to_fixed : (z : Sizes) (plan buffer : List ℕ) → refusal_of (to_fixed_said z plan buffer) ≡ found number → ⊥
+  pub to_variable : (z : Sizes) (plan buffer : List ℕ) → refusal_of (to_variable_said z plan buffer) ≡ found number → ⊥
   -- `next_epoch`, the schedule call
   pub next_epoch : (s : StateOf) (inner : ℕ) → refusal_of (next_epoch s inner) ≡ found number → ⊥
   pub schedule : (x : EncryptionSchedule) (epoch : ℕ) → refusal_of (use_on_epoch x epoch) ≡ found number → ⊥

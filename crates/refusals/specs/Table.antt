@@ -4,7 +4,7 @@ use Rattle.std.specs.Prelude.{ℕ, ◌+◌, List, [], ◌∷◌, Bool, true, fal
 use Rattle.lists.specs.Lists.{Found, found, nothing, map_found, lookup}
 use Rattle.bincode.specs.Read.{Read, value, refuse, whole}
 use Rattle.bincode.specs.Outcome.{Outcome, done, refused}
-use Rattle.bincode.specs.Numbers.{fixed}
+use Rattle.bincode.specs.Numbers.{Edition, fixed}
 use Rattle.bincode.specs.Sizes.{Sizes}
 use Rattle.pub_key_map.specs.PubKeyMap.{read_map}
 use Rattle.honey_badger.specs.declared.EncryptionSchedule.{EncryptionSchedule}
@@ -159,14 +159,23 @@ batch_rows z s b =
 
 -- `join_plan`: 1, also where nothing changed; then 5, where there is a plan and no epoch follows the report's
 unfoldable pub plan_rows : Sizes → List ℕ → BatchOf → List Row
-plan_rows z buffer b = row 1 (row1 z buffer) ∷ row 5 (changed b.change && no_next b) ∷ []
+plan_rows z buffer b = row 1 (row1 z.plan buffer) ∷ row 5 (changed b.change && no_next b) ∷ []
 
 -- reading a plan: 2 and 3 of its bytes; writing one: 1
 unfoldable pub plan_read_rows : Sizes → List ℕ → List Row
 plan_read_rows z bytes = row 2 (reads_to 2 (whole (read_plan fixed z bytes) bytes)) ∷ row 3 (reads_to 3 (whole (read_plan fixed z bytes) bytes)) ∷ []
 
 unfoldable pub plan_written_rows : Sizes → List ℕ → List Row
-plan_written_rows z buffer = row 1 (row1 z buffer) ∷ []
+plan_written_rows z buffer = row 1 (row1 z.plan buffer) ∷ []
+
+-- conversion: 1 before a byte is read; 2, 3 and, of the new edition, 16 as they are met (02, CR 5). The plan is read in edition e; the room is the other's
+unfoldable pub convert_rows : Edition → ℕ → Sizes → List ℕ → List ℕ → List Row
+convert_rows e room z plan buffer =
+    row 1 (row1 room buffer)
+    ∷ row 2 (reads_to 2 (whole (read_plan e z plan) plan))
+    ∷ row 3 (reads_to 3 (whole (read_plan e z plan) plan))
+    ∷ row 16 (reads_to 16 (whole (read_plan e z plan) plan))
+    ∷ []
 
 -- `next_epoch`: 5
 unfoldable pub next_rows : StateOf → ℕ → List Row

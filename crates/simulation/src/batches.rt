@@ -1,5 +1,5 @@
 // The bytes of a season: batches of one contribution, by node 3, and messages.
-use bincode::Encoded;
+use bincode::{Encoded, FixintEncoding};
 use change::Change;
 use key_gen_message::{KeyGenMessage, SignedKeyGenMsg};
 use message::Message;
@@ -100,14 +100,20 @@ fn add_acks(
 }
 
 // The bytes of a value.
-pub(crate) fn encoded<T: Encoded>(alloc: Global, value: T) -> Result<Vec<u8>, AllocError> {
+pub(crate) fn encoded<T: Encoded<FixintEncoding>>(
+    alloc: Global,
+    value: T,
+) -> Result<Vec<u8>, AllocError> {
     let mut bytes = vec![in alloc; 0u8; value.size()]?;
     value.write(&mut bytes, 0);
     Ok(bytes)
 }
 
 // How many values there are, and each.
-fn add_all<T: Encoded>(bytes: &mut Vec<u8>, values: &[T]) -> Result<(), AllocError> {
+fn add_all<T: Encoded<FixintEncoding>>(
+    bytes: &mut Vec<u8>,
+    values: &[T],
+) -> Result<(), AllocError> {
     let alloc = *bytes.allocator();
     bytes.extend_from_slice(&encoded(alloc, values.len() as u64)?)?;
     for x in values {

@@ -1,7 +1,7 @@
 // In what two replicas differ first, in what they tell and in what they hold of what is shared.
 use crate::calls::Called;
 use batch::Batch;
-use bincode::Encoded;
+use bincode::{Encoded, FixintEncoding};
 use board::Board;
 use change::Change;
 use dynamic_honey_badger::DynamicHoneyBadger;
@@ -49,7 +49,7 @@ fn first_difference(parts: &[(Difference, bool)]) -> Option<Difference> {
 }
 
 // By their bytes: what is not encoded is not compared.
-fn same_bytes<T: Encoded>(a: T, b: T) -> bool {
+fn same_bytes<T: Encoded<FixintEncoding>>(a: T, b: T) -> bool {
     let mut x = [0u8; 256];
     let mut y = [0u8; 256];
     a.write(&mut x, 0) == b.write(&mut y, 0) && x == y

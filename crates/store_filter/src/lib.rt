@@ -52,7 +52,7 @@ fn number_in(m: &KeyGenMessage) -> u64
     }
 }
 
-// Whether a stored message is the one that is read at a position. By a match, since a message that is handed to a closure is copied.
+// Whether a stored message is the one that is read at a position.
 fn is_read_at(x: &SignedKeyGenMsg, s: &[u8], at: usize) -> bool
     ensures { result ≡ is_read (signed_of x.now) (read_signed_key_gen_msg base s.now at) }
 {

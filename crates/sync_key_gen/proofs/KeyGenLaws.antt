@@ -1,4 +1,4 @@
--- Laws of handles, parts and acks: their lengths in bytes, equality of handles, and what the writer's loop starts with.
+-- Laws of handles: their length in bytes, equality of handles, and what the writer's loop starts with.
 -- Assumes nothing.
 use Prim.Native.Nat.{ℕ, ◌+◌, ◌*◌, ◌≤◌}
 use mathlib.Core.Path.{◌≡◌, refl}
@@ -10,14 +10,14 @@ use lib.ListN.{length, length-append}
 use borrow.Author.Tests.{eq-eqb, eqb-true}
 use Rattle.lists.proofs.EqLaws.{pointwise_list}
 use Rattle.lists.proofs.ListLaws.{eq_list_true, eq_list_refl}
-use Rattle.bincode.specs.Numbers.{bytes_of}
+use Rattle.bincode.specs.Numbers.{bytes_of, fixed}
 use Rattle.bincode.specs.Stands.{concat_map}
 use Rattle.bincode.proofs.NumberLaws.{length_bytes_of}
 use Rattle.bincode.specs.Writing.{written, written_to}
 use Rattle.bincode.proofs.WriteLaws.{Putting, put_counted}
 use Rattle.sync_key_gen.specs.declared.Handles.{Handles}
 use Rattle.sync_key_gen.specs.contracts.HandlesPartialEq.TheImpl.{eq-value}
-use Rattle.sync_key_gen.specs.SyncKeyGen.{handles_of, same_handles, PartOf, AckOf, handles_bytes, part_bytes, ack_bytes}
+use Rattle.sync_key_gen.specs.SyncKeyGen.{handles_of, same_handles, handles_bytes}
 
 length_values : (xs : List ℕ) → length (concat_map (bytes_of 8) xs) ≡ 8 * length xs
 length_values [] = refl
@@ -26,14 +26,6 @@ length_values (x ∷ xs) = simp (length-append, length_bytes_of, length_values x
 pub length_handles : (xs : List ℕ) → length (handles_bytes xs) ≡ 8 + 8 * length xs
 unfolding handles_bytes
 length_handles xs = simp (length-append, length_bytes_of, length_values)
-
-pub length_part : (p : PartOf) → length (part_bytes p) ≡ 8 + length (handles_bytes p.rows)
-unfolding part_bytes
-length_part p = simp (length-append, length_bytes_of) (omega arith)
-
-pub length_ack : (a : AckOf) → length (ack_bytes a) ≡ 8 + length (handles_bytes a.values)
-unfolding ack_bytes
-length_ack a = simp (length-append, length_bytes_of) (omega arith)
 
 -- equality of handles is equality
 pub handles_true : (xs ys : List ℕ) → same_handles xs ys ≡ true → xs ≡ ys
@@ -53,5 +45,5 @@ module _ (h : Handles) (n : ℕ) (e : n ≡ length (handles_of h)) (buf : List �
       (written buf at (bytes_of 8 n)) (written_to buf at (bytes_of 8 n))
   unfolding handles_bytes
   put_handles room =
-      let p = put_counted (bytes_of 8) (handles_of h) buf at n e room in
+      let p = put_counted fixed (bytes_of 8) (handles_of h) buf at n e room in
       record { fits = p.0; content = p.1; stop = p.2 }

@@ -9,7 +9,7 @@ ghost use Rattle.sync_key_gen.specs.SyncKeyGen.{handles_of, handles_held, headed
 ghost use Rattle.sync_key_gen.specs.SyncKeyGen.{read_part, part_bytes, AckOf, ack_of, ack_held, read_ack, ack_bytes};
 
 use array_list::ArrayList;
-use bincode::{Decoded, Encoded, Refusal};
+use bincode::{Decoded, Encoded, FixintEncoding, Refusal};
 
 // Encrypted rows or values, one for each node.
 #[derive(Clone, Copy, PartialEq)]
@@ -63,7 +63,7 @@ pub struct Ack {
     pub values: Handles,
 }
 
-impl Decoded for Handles {
+impl Decoded<FixintEncoding> for Handles {
     ghost Value = { List ℕ };
 
     ghost held = { handles_held };
@@ -72,7 +72,7 @@ impl Decoded for Handles {
 
     #[tactic(auto, unfolding(crate::specs::SyncKeyGen::read_handles, bincode::specs::Items::counted, bincode::specs::Items::read_count))]
     fn read(s: &[u8], at: usize) -> Result<(Self, usize), Refusal> {
-        let (n, first) = bincode::read_count(s, at, Handles::LIMIT as u64)?;
+        let (n, first) = bincode::read_count::<FixintEncoding>(s, at, Handles::LIMIT as u64)?;
         let count = n as usize;
         let mut values = [0; Handles::LIMIT];
         let mut c = first;
@@ -99,7 +99,7 @@ fn read_headed(s: &[u8], at: usize) -> Result<((u64, Handles), usize), Refusal>
     Ok(((head, handles), d))
 }
 
-impl Decoded for Part {
+impl Decoded<FixintEncoding> for Part {
     ghost Value = { PartOf };
 
     ghost held = { part_held };
@@ -113,7 +113,7 @@ impl Decoded for Part {
     }
 }
 
-impl Decoded for Ack {
+impl Decoded<FixintEncoding> for Ack {
     ghost Value = { AckOf };
 
     ghost held = { ack_held };
@@ -127,24 +127,19 @@ impl Decoded for Ack {
     }
 }
 
-// How many bytes handles take, behind their count.
-#[tactic(auto, using(crate::proofs::KeyGenLaws::length_handles))]
-pub fn handles_size(h: Handles) -> usize
-    ensures { (result ≡ length (handles_bytes (handles_of h))) × (result ≤ 8 + 8 * base.rows) }
-{
-    8 + 8 * h.len()
-}
-
-impl Encoded for Handles {
+impl Encoded<FixintEncoding> for Handles {
     ghost bytes = { λ h. handles_bytes (handles_of h) };
 
+    ghost longest = { 8 + 8 * base.rows };
+
+    #[tactic(auto, using(crate::proofs::KeyGenLaws::length_handles))]
     fn size(&self) -> usize {
-        handles_size(*self)
+        8 + 8 * self.len()
     }
 
     #[tactic(auto, unfolding(bincode::specs::Writing::written, bincode::specs::Writing::written_to))]
     fn write(&self, buf: &mut [u8], at: usize) -> usize {
-        if bincode::room(buf.len(), at, handles_size(*self)) {
+        if bincode::room(buf.len(), at, self.size()) {
             let mut c = bincode::write_u64(buf, at, self.len() as u64);
             for x in self.values.as_slice() {
                 c = bincode::write_u64(buf, c, *x);
@@ -156,30 +151,34 @@ impl Encoded for Handles {
     }
 }
 
-impl Encoded for Part {
+impl Encoded<FixintEncoding> for Part {
     ghost bytes = { λ p. part_bytes (part_of p) };
 
-    #[tactic(auto, using(crate::proofs::KeyGenLaws::length_part))]
+    ghost longest = { 16 + 8 * base.rows };
+
+    #[tactic(auto, unfolding(crate::specs::SyncKeyGen::part_bytes))]
     fn size(&self) -> usize {
-        8 + handles_size(self.rows)
+        Encoded::<FixintEncoding>::size(&(self.commit, self.rows))
     }
 
     #[tactic(auto, unfolding(crate::specs::SyncKeyGen::part_bytes))]
     fn write(&self, buf: &mut [u8], at: usize) -> usize {
-        (self.commit, self.rows).write(buf, at)
+        Encoded::<FixintEncoding>::write(&(self.commit, self.rows), buf, at)
     }
 }
 
-impl Encoded for Ack {
+impl Encoded<FixintEncoding> for Ack {
     ghost bytes = { λ a. ack_bytes (ack_of a) };
 
-    #[tactic(auto, using(crate::proofs::KeyGenLaws::length_ack))]
+    ghost longest = { 16 + 8 * base.rows };
+
+    #[tactic(auto, unfolding(crate::specs::SyncKeyGen::ack_bytes))]
     fn size(&self) -> usize {
-        8 + handles_size(self.values)
+        Encoded::<FixintEncoding>::size(&(self.proposer, self.values))
     }
 
     #[tactic(auto, unfolding(crate::specs::SyncKeyGen::ack_bytes))]
     fn write(&self, buf: &mut [u8], at: usize) -> usize {
-        (self.proposer, self.values).write(buf, at)
+        Encoded::<FixintEncoding>::write(&(self.proposer, self.values), buf, at)
     }
 }

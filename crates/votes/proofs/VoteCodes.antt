@@ -3,11 +3,10 @@
 use Prim.Native.Nat.{ℕ, ◌^◌, ◌<◌}
 use mathlib.Core.Path.{refl}
 use mathlib.Core.List.{List}
-use lib.Dec.{lit<}
 use Rattle.bincode.specs.Numbers.{fixed}
 use Rattle.bincode.specs.Sizes.{Sizes}
 use Rattle.bincode.specs.Codes.{Codes}
-use Rattle.bincode.proofs.CodeLaws.{fixed_codes, field, ended, restate}
+use Rattle.bincode.proofs.CodeLaws.{four, eight, fixed_codes, field, ended, restate}
 use Rattle.change.proofs.ChangeCodes.{change_codes}
 use Rattle.votes.specs.Votes.{read_vote, vote_bytes, VoteOk, read_signed_vote, signed_bytes, SignedVoteOk}
 
@@ -19,8 +18,8 @@ module _ (s : List ℕ) (z : Sizes) (fits : z.nodes < 256 ^ 8) where
       (λ v o. record { change_ok = o.1.0; era_fits = o.1.1.0; num_fits = o.1.1.1.0 })
       (λ v o. (tt, (o.change_ok, (o.era_fits, (o.num_fits, tt)))))
       (field {H = λ v. Unit {0}} (λ v. v.change) (change_codes fixed s (fixed_codes s) z fits) λ change.
-      field (λ v. v.era) (fixed_codes s 8 (lit< tt)) λ era.
-      field (λ v. v.num) (fixed_codes s 8 (lit< tt)) λ num.
+      field (λ v. v.era) (fixed_codes s 8 eight) λ era.
+      field (λ v. v.num) (fixed_codes s 8 eight) λ num.
       ended (record { change = change; era = era; num = num }) (((tt, refl), refl), refl)
       (λ v h. λ i. record { change = h.0.0.1 i; era = h.0.1 i; num = h.1 i }))
 
@@ -31,7 +30,7 @@ module _ (s : List ℕ) (z : Sizes) (fits : z.nodes < 256 ^ 8) where
       (λ x o. record { vote_ok = o.1.0; voter_fits = o.1.1.0; sig_fits = o.1.1.1.0 })
       (λ x o. (tt, (o.vote_ok, (o.voter_fits, (o.sig_fits, tt)))))
       (field {H = λ x. Unit {0}} (λ x. x.vote) vote_codes λ vote.
-      field (λ x. x.voter) (fixed_codes s 4 (lit< tt)) λ voter.
-      field (λ x. x.sig) (fixed_codes s 8 (lit< tt)) λ sig.
+      field (λ x. x.voter) (fixed_codes s 4 four) λ voter.
+      field (λ x. x.sig) (fixed_codes s 8 eight) λ sig.
       ended (record { vote = vote; voter = voter; sig = sig }) (((tt, refl), refl), refl)
       (λ x h. λ i. record { vote = h.0.0.1 i; voter = h.0.1 i; sig = h.1 i }))

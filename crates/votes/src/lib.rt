@@ -10,7 +10,7 @@ ghost use Rattle.votes.specs.Votes.{VoteOf, vote_of, vote_held, no_vote, read_vo
 ghost use Rattle.votes.specs.Votes.{read_signed_vote, signed_bytes, voter_in};
 
 use array_list::Keyed;
-use bincode::{Decoded, Encoded, Refusal};
+use bincode::{Decoded, Encoded, FixintEncoding, Refusal};
 use change::Change;
 use pub_key_map::PubKeyMap;
 
@@ -71,7 +71,7 @@ impl Keyed for SignedVote {
     }
 }
 
-impl Decoded for Vote {
+impl Decoded<FixintEncoding> for Vote {
     ghost Value = { VoteOf };
 
     ghost held = { vote_held };
@@ -80,7 +80,7 @@ impl Decoded for Vote {
 
     #[tactic(auto, using(bincode::proofs::NumberLaws::read_refused), unfolding(crate::specs::Votes::read_vote))]
     fn read(s: &[u8], at: usize) -> Result<(Self, usize), Refusal> {
-        let (change, a) = Change::read(s, at)?;
+        let (change, a) = <Change as Decoded<FixintEncoding>>::read(s, at)?;
         let Ok((era, b)) = bincode::read_u64(s, a) else {
             return Err(Refusal::Malformed);
         };
@@ -91,7 +91,7 @@ impl Decoded for Vote {
     }
 }
 
-impl Decoded for SignedVote {
+impl Decoded<FixintEncoding> for SignedVote {
     ghost Value = { SignedVoteOf };
 
     ghost held = { signed_held };
@@ -147,44 +147,34 @@ pub fn read_vote_head(s: &[u8], at: usize) -> Result<(VoteHead, usize), Refusal>
     Ok((head, e))
 }
 
-// How many bytes a vote takes.
-#[tactic(auto, using(crate::proofs::VoteLaws::length_vote))]
-pub fn vote_size(v: Vote) -> usize
-    ensures { (result ≡ length (vote_bytes (vote_of v))) × (result ≤ 28 + 12 * base.nodes) }
-{
-    change::change_size(v.change) + 16
-}
-
-// How many bytes a signed vote takes.
-#[tactic(auto, using(crate::proofs::VoteLaws::length_signed))]
-pub fn signed_vote_size(x: SignedVote) -> usize
-    ensures { (result ≡ length (signed_bytes (signed_of x))) × (result ≤ 40 + 12 * base.nodes) }
-{
-    vote_size(x.vote) + 12
-}
-
-impl Encoded for Vote {
+impl Encoded<FixintEncoding> for Vote {
     ghost bytes = { λ v. vote_bytes (vote_of v) };
 
+    ghost longest = { 28 + 12 * base.nodes };
+
+    #[tactic(auto, unfolding(crate::specs::Votes::vote_bytes))]
     fn size(&self) -> usize {
-        vote_size(*self)
+        Encoded::<FixintEncoding>::size(&(self.change, self.era, self.num))
     }
 
     #[tactic(auto, unfolding(crate::specs::Votes::vote_bytes))]
     fn write(&self, buf: &mut [u8], at: usize) -> usize {
-        (self.change, self.era, self.num).write(buf, at)
+        Encoded::<FixintEncoding>::write(&(self.change, self.era, self.num), buf, at)
     }
 }
 
-impl Encoded for SignedVote {
+impl Encoded<FixintEncoding> for SignedVote {
     ghost bytes = { λ x. signed_bytes (signed_of x) };
 
+    ghost longest = { 40 + 12 * base.nodes };
+
+    #[tactic(auto, unfolding(crate::specs::Votes::signed_bytes))]
     fn size(&self) -> usize {
-        signed_vote_size(*self)
+        Encoded::<FixintEncoding>::size(&(self.vote, self.voter, self.sig))
     }
 
     #[tactic(auto, unfolding(crate::specs::Votes::signed_bytes))]
     fn write(&self, buf: &mut [u8], at: usize) -> usize {
-        (self.vote, self.voter, self.sig).write(buf, at)
+        Encoded::<FixintEncoding>::write(&(self.vote, self.voter, self.sig), buf, at)
     }
 }

@@ -12,8 +12,8 @@ use Rattle.pub_key_map.proofs.check_map.Goals as goal
 pub loop-init : goal.loop-init
 unfolding read_map
 loop-init c =
-    let r = count_read _ _ _ c.read_count.ensures c.in_ok-count.was in
-    ([], counted_start (read_node fixed _) following _ _ _ _ _ _ r.0 r.1)
+    let r = count_read _ _ _ _ c.read_count.ensures c.in_ok-count.was in
+    ([], counted_start (read_node fixed _) following _ _ _ _ _ _ _ r.0 r.1)
 
 pub returns-in_err-node : goal.returns-in_err-node
 returns-in_err-node c =

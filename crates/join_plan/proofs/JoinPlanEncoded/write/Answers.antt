@@ -3,4 +3,4 @@ use Rattle.join_plan.proofs.PlanLaws.{fields_bytes}
 use Rattle.join_plan.proofs.JoinPlanEncoded.write.Goals as goal
 
 pub returns : goal.returns
-returns c = rw (← fields_bytes (plan_of c.args.self.now)) c.write.ensures
+returns g c = rw (← fields_bytes g.E.IntEncoding.edition (plan_of c.args.self.now)) c.write.ensures

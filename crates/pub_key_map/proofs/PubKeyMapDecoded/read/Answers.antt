@@ -3,7 +3,6 @@ use mathlib.Core.List.{[], ◌∷◌, ◌++◌}
 use native.Mathlib.Omega.{arith}
 use lib.ListN.{length, length-append}
 use Rattle.lists.proofs.ListLaws.{padded_set}
-use Rattle.bincode.specs.Numbers.{fixed}
 use Rattle.bincode.specs.Sizes.{base}
 use Rattle.bincode.specs.Answer.{answer}
 use Rattle.bincode.proofs.ItemLaws.{count_read, counted_start, items_turn, items_refused, items_end}
@@ -16,20 +15,20 @@ use Rattle.pub_key_map.proofs.PubKeyMapDecoded.read.Goals as goal
 
 pub loop-node-init : goal.loop-node-init
 unfolding read_map
-loop-node-init c =
-    let r = count_read _ _ _ c.read_count.ensures c.in_ok-n.was in
-    ([], refl, part_empty no_node c.in_ok-n.n base.nodes r.1, counted_start (read_node fixed _) following _ _ _ _ _ _ r.0 r.1)
+loop-node-init g c =
+    let r = count_read _ _ _ _ c.read_count.ensures c.in_ok-n.was in
+    ([], refl, part_empty no_node c.in_ok-n.n base.nodes r.1, counted_start (read_node g.E.IntEncoding.edition _) following _ _ _ _ _ _ _ r.0 r.1)
 
 pub returns-in_err-e : goal.returns-in_err-e
-returns-in_err-e c =
-    let few = (count_read _ _ _ c.read_count.ensures c.in_ok-n.was).1 in
+returns-in_err-e g c =
+    let few = (count_read _ _ _ _ c.read_count.ensures c.in_ok-n.was).1 in
     let h = part_turn no_node c.in_ok-n.n base.nodes few _ c.loop-node-test.true in
     let p = answer_exit (λ (x : Node). x) _ _ (sym c.read_node.ensures ∙ c.in_err-e.was) _ c.from_residual-in_err-e.ensures.1 in
     p.2 ∙ ap (answer map_held) (sym (c.loop-node.invariant.3 ∙ items_refused _ _ _ _ _ _ _ _ h p.1))
 
 pub loop-node-preserved : goal.loop-node-preserved
-loop-node-preserved c =
-    let few = (count_read _ _ _ c.read_count.ensures c.in_ok-n.was).1 in
+loop-node-preserved g c =
+    let few = (count_read _ _ _ _ c.read_count.ensures c.in_ok-n.was).1 in
     let l = c.loop-node in
     let v = l.invariant in
     let e = c.in_ok-e.e in
@@ -42,8 +41,8 @@ loop-node-preserved c =
     )
 
 pub returns : goal.returns
-returns c =
-    let few = (count_read _ _ _ c.read_count.ensures c.in_ok-n.was).1 in
+returns g c =
+    let few = (count_read _ _ _ _ c.read_count.ensures c.in_ok-n.was).1 in
     let l = c.loop-node in
     let v = l.invariant in
     let e = part_done no_node c.in_ok-n.n base.nodes few _ c.loop-node-test.false l.auto.node-index-end in
