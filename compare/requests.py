@@ -5,6 +5,7 @@ asks for it; whatever is exempt nowhere must be answered in the Rust's own words
 |---|---|---|
 | CR 1 | a batch of another era than the engine's; the Rust's batches have no era, so the oracle hands none of them on | `refused 15`, or 1 to 4, which come before it |
 | CR 2 | a batch with key messages of a leaving node, at the first of which the Rust errs | the Rust's answer to the batch without them, with their faults put in; `refused 7` where it has none |
+| CR 6 | a reported batch with votes of an old number and of a wrong era or signature, at which the Rust looks no further than at the number | the Rust's answer, with their faults put in |
 
 CR 3 and CR 5 exempt nothing: the Rust has no `board`, no `plan-new` and no `plan-old`, so the oracle is not asked, and what must be answered is a rule of the generator's own (board.py, plans.py).
 
@@ -16,6 +17,14 @@ CR 2, more closely. A leaving node's key message is one that was row 6 (`is_leav
 
 Each of those faults is exchanged for document 02's, `UnexpectedKeyGenPart` or `UnexpectedKeyGenAck` of the signer; less them the second answer must be the first, word for word. So just those faults
 are exempt. Where the Rust has an answer to the whole batch, the generator stops: nothing would have to be exempt.
+
+CR 6, more closely. Exempt are just the faults of votes whose number is old, at or below their voter's stored one at that moment, and whose era or signature is wrong (`is_old_wrong`). The Rust passes
+such a vote over, and document 02 has one fault of the proposer for it. Before a batch that has some, and that no row refuses, the oracle is asked for its marked form (`try ..`), in which each of them
+has the last number of all, so a new one, and is as it was otherwise. The Rust then looks at era and signature by itself: it is that one fault, and does nothing else. (Where the last number is stored
+none is new; there the vote gets a voter of neither map, of whom nothing is stored and who has no key.) The Rust's answer to the marked form is what must be answered, word for word; less the faults of
+those votes, each at its place, it must be the answer to the batch as it is (that of CR 2, where a leaving node's messages are in it too). So the Rust has faulted none of
+them itself, and finds each of them wrong, but for those old against the last number: of these it shows the place only, and that era or signature is wrong is this file's rule (`generate` counts them). The log goes on in the state behind the batch as it is; that it is the one behind the marked form, `check_marked` shows, which goes through each log once more with the marked forms taken, and
+holds the state before each reported batch, and the last one, to that of the log.
 """
 import collections
 import wire
@@ -23,19 +32,23 @@ import wire
 # The rows of a batch call, in the order in which they are looked for; of 2 and 3 the one that is met first in the bytes. Row 6 has no condition (02, CR 2).
 BATCH_ROWS = (1, 2, 3, 4, 15, 5, 7)
 
+# The last number that a vote can have.
+LAST_NUMBER = 2**64 - 1
+
 # What occurred of CR 2, and how often; `generate` prints it.
 SEEN = collections.Counter()
 
-Group = collections.namedtuple("Group", "era map candidate")
+Group = collections.namedtuple("Group", "era map candidate numbers")
 
 
 def group_told(state):
-    """Era, map and candidate map (none without key generation), from the oracle's answer to `state`; nothing before a start."""
+    """Era, map, candidate map (none without key generation) and the number of each stored vote by its voter, from the oracle's answer to `state`; nothing before a start."""
     if state == "no engine":
         return None
     words = state.split(" ")
     node_map = lambda word: dict(wire.read_map(bytes.fromhex(word)))
-    return Group(int(words[1]), node_map(words[2]), None if words[7] == "-" else node_map(words[7]))
+    votes = [] if words[5] == "-" else [v.split(":") for v in words[5].split(",")]
+    return Group(int(words[1]), node_map(words[2]), None if words[7] == "-" else node_map(words[7]), {int(voter): int(number) for voter, number, _ in votes})
 
 
 def first_row(rows):
@@ -66,8 +79,9 @@ def of_another_era(call, group, number):
     return 15 in rows_seen(call, group.era)
 
 
-def passed_over(call, group, ask, answer, number):
+def passed_over(call, group, ask, number, others):
     """The number is the generator's, and `check_number` has held it to the order; that the oracle kept the call from the Rust is all that can be seen there."""
+    answer = ask(call)
     if answer != "undefined":
         raise SystemExit("the oracle answers a batch of another era: %s -> %s" % (call[:300], answer[:200]))
     return "refused %d" % number
@@ -128,17 +142,17 @@ def bad_signatures(call, group):
                 yield "%d:InvalidKeyGenMessageSignature" % proposer, "%d:%s" % (m[1], unexpected[m[2][0]]) if is_leaving(m, group) else None
 
 
-def exchanged(faults, bad):
-    """The faults with document 02's in their places, and the faults without those."""
-    told, left, bad = [], [], list(bad)
+def exchanged(faults, kind, known):
+    """The faults with document 02's in their places, and the faults without those. Known are all faults of a kind, in order: their words, and document 02's, if any."""
+    told, left, known = [], [], list(known)
     for fault in faults:
-        words, instead = (fault, None) if not fault.endswith(":InvalidKeyGenMessageSignature") else bad.pop(0)
+        words, instead = (fault, None) if not fault.endswith(":" + kind) else known.pop(0) if known else (None, None)
         if words != fault:
-            raise SystemExit("a bad signature that the generator does not know: %s, not %s" % (fault, words))
+            raise SystemExit("a fault that the generator does not know: %s, not %s" % (fault, words))
         told.append(instead or fault)
         left += [] if instead else [fault]
-    if bad:
-        raise SystemExit("bad signatures that the Rust does not tell: %s" % bad)
+    if known:
+        raise SystemExit("faults that the Rust does not tell: %s" % known)
     return told, left
 
 
@@ -175,8 +189,14 @@ def stored_now(ask):
     return out
 
 
-def faults_of_leaving(call, group, ask, answer, number):
+def exchanged_for_leaving(answer, call, group):
+    """The faults of `exchanged`, where this is the Rust's answer to the batch of `unsigned`."""
+    return exchanged(faults_of(answer), "InvalidKeyGenMessageSignature", bad_signatures(call, group))
+
+
+def faults_of_leaving(call, group, ask, number, others):
     """CR 2. The oracle must not answer the whole batch: else the Rust does not err there, and nothing would be exempt."""
+    answer = ask(call)
     if answer != "undefined":
         raise SystemExit("the Rust takes a batch with a key message of a leaving node: %s -> %s" % (call[:300], answer[:200]))
     stored, without, marked = stored_now(ask), ask("try " + without_leaving(call, group)), ask(unsigned(call, group))
@@ -185,7 +205,7 @@ def faults_of_leaving(call, group, ask, answer, number):
     if number is not None:
         told = "refused %d" % number
     else:
-        faults, left = exchanged(faults_of(marked), bad_signatures(call, group))
+        faults, left = exchanged_for_leaving(marked, call, group)
         if with_faults(marked, left) != without:
             raise SystemExit("the batch without a leaving node's messages is answered otherwise: %s, not %s" % (without[:2000], marked[:2000]))
         told = with_faults(marked, faults)
@@ -193,8 +213,119 @@ def faults_of_leaving(call, group, ask, answer, number):
     return told
 
 
-# Each exemption: its request, the batch calls that it takes out of the comparison, and what is asked of them.
-EXEMPT = [("CR 1", of_another_era, passed_over), ("CR 2", has_leaving, faults_of_leaving)]
+# -- CR 6 --------------------------------------------------------------------------------------------------------------------------
+# A vote of a batch as it is met: its proposer, the vote, its voter's stored number at that moment (none without a stored vote), and whether its era and its signature are wrong.
+Met = collections.namedtuple("Met", "proposer vote stored wrong_era wrong_signature")
+
+
+def is_wrong(m):
+    return m.wrong_era or m.wrong_signature
+
+
+def is_old(m):
+    return m.stored is not None and m.vote[2] <= m.stored
+
+
+def is_old_wrong(m):
+    return is_old(m) and is_wrong(m)
+
+
+def is_stored(m):
+    return not is_old(m) and not is_wrong(m)
+
+
+def votes_met(contributions, group):
+    """The votes of a batch in order, each held to what is stored at its moment. A voter outside the map has no key, so that no signature is right."""
+    stored = dict(group.numbers)
+    for proposer, _, _, votes in contributions:
+        for vote in votes:
+            _, era, number, voter, sig = vote
+            m = Met(proposer, vote, stored.get(voter), era != group.era, sig != group.map.get(voter))
+            if is_stored(m):
+                stored[voter] = number
+            yield m
+
+
+def numbers_behind(contributions, group):
+    """The number of each stored vote by its voter, behind the votes of these contributions."""
+    return {**group.numbers, **{m.vote[3]: m.vote[2] for m in votes_met(contributions, group) if is_stored(m)}}
+
+
+def has_old_wrong(call, group, number):
+    """Whether a batch call has such a vote. One that some row refuses has no faults, whatever it holds."""
+    return number is None and any(map(is_old_wrong, votes_met(read_call(call)[0], group)))
+
+
+def marked_vote(m, group):
+    """Such a vote with the last number, or, where that is stored, with a voter of neither map; any other vote as it is."""
+    change, era, number, voter, sig = m.vote
+    if not is_old_wrong(m):
+        return m.vote
+    if m.stored < LAST_NUMBER:
+        return (change, era, LAST_NUMBER, voter, sig)
+    return (change, era, number, next(i for i in range(2**32) if i not in group.map and i not in (group.candidate or {})), sig)
+
+
+def marked_call(call, group):
+    """The batch with each such vote marked."""
+    contributions, verdicts = read_call(call)
+    marked = iter([marked_vote(m, group) for m in votes_met(contributions, group)])
+    left = [(i, user, messages, [next(marked) for _ in votes]) for i, user, messages, votes in contributions]
+    return written_call(call, "batch", left, verdicts)
+
+
+def answer_to_marked(call, group, ask, word=""):
+    """The Rust's answer to a marked batch, with CR 2's faults in their places where it has key messages of a leaving node. Behind the word `try ` no state changes."""
+    call = marked_call(call, group)
+    leaves = has_leaving(call, group, None)
+    answer = ask(word + (unsigned(call, group) if leaves else call))
+    if answer == "undefined":
+        raise SystemExit("the Rust refuses a marked batch: %s" % call[:4000])
+    return with_faults(answer, exchanged_for_leaving(answer, call, group)[0]) if leaves else answer
+
+
+def faults_of_old_wrong(call, group, ask, number, others):
+    """CR 6. The marked batch comes first, since the one as it is changes the state."""
+    told, as_it_is = answer_to_marked(call, group, ask, "try "), asked_of(call, group, ask, number, others)
+    votes = [("%d:InvalidCommittedVote" % m.proposer, is_old_wrong(m)) for m in votes_met(read_call(call)[0], group) if is_wrong(m)]
+    _, left = exchanged(faults_of(told), "InvalidCommittedVote", [(fault, fault if put_in else None) for fault, put_in in votes])
+    if with_faults(told, left) != as_it_is:
+        raise SystemExit("the batch is answered otherwise with its old votes marked: %s, not %s" % (told[:2000], as_it_is[:2000]))
+    return told
+
+
+def check_same(again, told, call):
+    if again != told:
+        raise SystemExit("with marked batches in the log a call is answered otherwise: %s, not %s: %s" % (again[:2000], told[:2000], call[:2000]))
+
+
+def check_marked(lines, answers, states, ask):
+    """A log again, put to an oracle that has no engine yet, with the marked form of each batch that has such votes: it must have the same answers, and the same states before each reported batch
+    and behind the last call, so that the Rust's state is the same behind a batch and its marked form. Refused calls leave the state, and boards and conversions are not the Rust's."""
+    calls, states = [line for line in lines if line != "" and not line.startswith("#")], iter(states)
+    for call, told in zip(calls, answers, strict=True):
+        if told.startswith("refused") or call == "board" or call.startswith(("plan-new ", "plan-old ")):
+            continue
+        if told.startswith("batch "):
+            state = ask("state")
+            check_same(state, next(states), "state")
+            check_same(answer_to_marked(call, group_told(state), ask), told, call)
+        else:
+            check_same(ask(call), told, call)
+    check_same(ask("state"), next(states), "state")
+
+
+# Each exemption: its request, the batch calls that it takes out of the comparison, and what is asked of them. The first that takes a call counts, and is handed those behind it, of which only CR 6
+# makes use: it asks them first.
+EXEMPT = [("CR 6", has_old_wrong, faults_of_old_wrong), ("CR 1", of_another_era, passed_over), ("CR 2", has_leaving, faults_of_leaving)]
+
+
+def asked_of(call, group, ask, number, exempt):
+    """What must be answered to a batch, with these exemptions."""
+    for k, (_, applies, instead) in enumerate(exempt):
+        if applies(call, group, number):
+            return instead(call, group, ask, number, exempt[k + 1:])
+    return answered(call, ask(call), number, False)
 
 
 def asked(call, ask, number=None, maybe=False):
@@ -202,12 +333,15 @@ def asked(call, ask, number=None, maybe=False):
     if number == 6:
         raise SystemExit("6 is stated, which no call answers: %s" % call[:300])
     group = group_told(ask("state")) if call.startswith("batch ") else None
-    answer = ask(call)
-    if group is not None:
-        check_number(call, group.era, number)
-        for _, applies, instead in EXEMPT:
-            if applies(call, group, number):
-                return instead(call, group, ask, answer, number)
+    if group is None:
+        return answered(call, ask(call), number, maybe)
+    assert not maybe, "a batch is refused or not: %s" % call[:300]
+    check_number(call, group.era, number)
+    return asked_of(call, group, ask, number, EXEMPT)
+
+
+def answered(call, answer, number, maybe):
+    """The Rust's answer where no request names the call; the number that is stated where it has none."""
     if answer == "undefined":
         if number is None:
             raise SystemExit("the oracle refuses a call that was built to be accepted: %s" % call[:4000])

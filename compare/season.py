@@ -17,6 +17,8 @@ FULL = (1024, 1025)
 # lengths of both lists that are long enough, and lengths of which one is too short
 ENOUGH = [FULL, FULL, (1025, 1025), (1024, 1026), (1500, 1025), (1024, 1999), (2000, 2000)]
 SHORT = [(1023, 1025), (1024, 1024), (0, 2000), (2000, 0), (1, 1), (1023, 2000), (2000, 1024)]
+# the share of a season's batches that get votes of old numbers put in, as far as there are stored votes
+OLD_SHARE = 0.35
 # the calls that may change a state
 CHANGING = ("new", "join", "vote", "add", "remove", "message", "due", "batch")
 
@@ -49,8 +51,10 @@ class Season:
         self.tally = random.Random("board %d" % seed)
         self.edges = random.Random("schedule %d" % seed)
         self.editions = random.Random("plans %d" % seed)
+        self.forged = random.Random("old votes %d" % seed)
         self.every_board = deep  # whether a board is asked behind each call that may change a state
         self.boards = []  # for each board that was asked: the call before it and its answer, the states told before that call and now
+        self.batches = []  # each batch call with its answer, and the state told before it
         self.heard = []  # key messages that were received or handed back, some of which are stored
         self.lines, self.answers = [], []
         self.shown = set()  # the places of boards, and of answers that a deep season adds
@@ -78,6 +82,8 @@ class Season:
         a = requests.asked(line, self.o.ask, number, maybe)
         self.lines.append(line)
         self.answers.append(a)
+        if line.startswith("batch "):
+            self.batches.append((line, a, before))
         if changing and self.board_wanted(line):
             self.ask_board(line, a, before)
         if line.startswith("plan ") and a.startswith("plan ") and self.conversion_wanted():
@@ -164,7 +170,7 @@ class Season:
         self.group = requests.group_told(" ".join(a))
         self.era = self.group.era
         self.map = wire.read_map(bytes.fromhex(a[2]))
-        self.votes = {} if a[5] == "-" else {int(v.split(":")[0]): int(v.split(":")[1]) for v in a[5].split(",")}
+        self.votes = self.group.numbers
         self.voted = {voter: wire.read_change(bytes.fromhex(change)) for voter, change in board.votes_told(" ".join(a)).items()}
         self.candidate = None if a[7] == "-" else wire.read_map(bytes.fromhex(a[7]))
         self.parts = {} if a[9] == "-" else {int(q.split(":")[0]): q.split(":") for q in a[9].split(",")}
@@ -272,6 +278,32 @@ class Season:
             out += [m] * r.choice([1, 1, 1, 2])
         return out
 
+    def old_votes(self, cs):
+        """In a share of the batches, votes of old numbers at random places in these contributions. They store nothing, so that a season keeps everything else."""
+        r = self.forged
+        if self.rust or r.random() >= OLD_SHARE:
+            return
+        for _ in range(r.choice([1, 1, 1, 2, 4])):
+            k = r.randrange(len(cs))
+            j = r.randrange(len(cs[k][3]) + 1)
+            numbers = requests.numbers_behind(cs[:k] + [(*cs[k][:3], cs[k][3][:j])], self.group)
+            if numbers and len(wire.batch(cs)) < 65300 and sum(len(c[2]) + len(c[3]) for c in cs) < 1024:
+                cs[k][3].insert(j, self.old_vote(numbers))
+
+    def old_vote(self, numbers):
+        """A vote at or below its voter's stored number: mostly of a wrong era or signature, or both; where some voter has another key in the candidate map, often under that key."""
+        r, keys = self.forged, dict(self.map)
+        new = {i: key for i, key in self.candidate or [] if i in numbers and key != keys[i]}
+        voter = r.choice(sorted(new if new and r.random() < 0.5 else numbers))
+        stored, key, wrong = numbers[voter], keys[voter], r.choice(["era", "era", "signature", "signature", "both", "nothing"])
+        era = r.choice([x for x in (self.era - 1, self.era + 1, self.era + 7, 0, LAST) if 0 <= x <= LAST and x != self.era])
+        sig = r.choice([x for x in (0, key + 1, 7, r.choice(self.map)[1]) if x != key])
+        if voter in new and r.random() < 0.7:
+            sig = new[voter]
+        c = r.choice([("schedule", (1,)), ("schedule", (2, 3)), ("map", [])] + list(self.voted.values()))
+        number = r.choice([stored, stored, max(0, stored - 1), 0, r.randrange(stored + 1)])
+        return (c, era if wrong in ("era", "both") else self.era, number, voter, sig if wrong in ("signature", "both") else key)
+
     # -- batches ---------------------------------------------------------------------------------------------------------------
     def line(self, cs, verdicts, inner=None, places=None, raw=None, era=None):
         """A batch call; of the engine's era, as the oracle tells it, where no other is given."""
@@ -293,6 +325,7 @@ class Season:
     def batch(self, messages, votes, verdict=None, number=None):
         r = self.r
         cs = self.spread(messages, votes)
+        self.old_votes(cs)
         vs = [(verdict if verdict is not None else (0 if r.random() < 0.9 else r.randrange(4))) for c in cs for _ in c[2]]
         vs = [self.away.randrange(4) if requests.is_leaving(m, self.group) else v for v, m in zip(vs, [m for c in cs for m in c[2]])]
         return self.committed(self.line(cs, vs), number)

@@ -45,6 +45,12 @@ def votes_batch(n, k):
     return wire.batch([(1, b"", [], vs)]), 0
 
 
+def last_votes_batch(n, k, key=None):
+    """k votes of the last node, whose key is looked up last: one numbered k, then, under a key, those of old numbers; under its own they are nothing."""
+    vote = lambda j, sig: (("schedule", (1,)), 1, j, n, sig)
+    return wire.batch([(1, b"", [], [vote(k, 1000 + n)] + [vote(0, 1000 + n if key is None else key)] * (k - 1))]), 0
+
+
 def all_votes(n, j, era, choice):
     """A vote of every node, numbered j."""
     return wire.batch([(i, b"", [], [(choice(i), era, j, i, k)]) for i, k in nodes(n)])

@@ -6,7 +6,7 @@ use mathlib.Core.Logic.{◌⊎◌, inl, inr}
 use mathlib.Core.List.{List, [], ◌∷◌, ◌++◌}
 use mathlib.Core.Bool.{true, false}
 use native.Mathlib.Omega.{arith}
-use lib.ListN.{take}
+use lib.ListN.{length, take}
 use Rattle.lists.specs.Lists.{found}
 use Rattle.bincode.specs.Outcome.{done}
 use Rattle.bincode.specs.Sizes.{base}
@@ -34,6 +34,8 @@ use Rattle.agreement.proofs.FullLaws as full
 use Rattle.agreement.proofs.FullLaws.{same_taken_given}
 use Rattle.agreement.proofs.Joiner as joiner
 use Rattle.agreement.proofs.WrittenPlan as written
+use Rattle.agreement.specs.NumberFirst.{processed_number_first, call_marks, struck}
+use Rattle.agreement.proofs.StruckBatch as number
 use Rattle.agreement.proofs.FormedLaws.{reached_formed}
 
 -- The claim. From every accepted start on, and after every list of calls, a replica is where the reference state is that the start's map, era and parameters (a
@@ -194,3 +196,11 @@ agreeing_one_board start start' s t starts starts' cs ds agree =
 -- every state that is reached from an accepted start is well formed
 pub reached_states_formed : (start : Start) → StartFits start → (s : StateOf) → start_state base start ≡ done s → (cs : List Call) → All CallFits cs → Formed base (run base s cs)
 reached_states_formed = reached_formed base (omega arith) (omega arith) (omega arith)
+
+-- 02, CR 6: a batch call in document 01's order of checks on a vote leaves the same state and has the same answer, but for the faults that are marked by a list of Booleans, one
+-- for each fault: those of a vote whose number is old and whose era or signature is wrong (`marked_there`, `marked_nowhere_else`, `marked_no_message`)
+pub number_first_struck : (s : StateOf) (b : BatchCall) → processed_number_first base s b ≡ record { state = (processed base s b).state; answer = struck (call_marks base s b) (processed base s b).answer }
+number_first_struck = number.call_struck base base_fits
+
+pub number_first_marks : (s : StateOf) (b : BatchCall) (r : ReportOf) → (processed base s b).answer ≡ done r → length (call_marks base s b) ≡ length r.faults
+number_first_marks = number.marks_fit base base_fits

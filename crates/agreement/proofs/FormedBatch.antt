@@ -64,21 +64,21 @@ module _ (z : Sizes) (era : ℕ) where
   vote_works : (p : ℕ) (w : WorkOf) (v : SignedVoteOf) → SignedVoteOk z v → Working w → Working (committed_vote z p w v)
   unfolding committed_vote add_committed vote_effect valid_vote
   vote_works p w v o f =
-      go (obsolete w.state.counter.committed v) (eqb v.vote.era (era_of w.state)) (is_key v.sig (key_of (nodes_in w.state) v.voter)) refl
+      go (eqb v.vote.era (era_of w.state)) (is_key v.sig (key_of (nodes_in w.state) v.voter)) (obsolete w.state.counter.committed v) refl
     where
-      go : (a b c : Bool) → is_key v.sig (key_of (nodes_in w.state) v.voter) ≡ c
+      go : (a b c : Bool) → is_key v.sig (key_of (nodes_in w.state) v.voter) ≡ b
           → Working
-          (countedAs z p w (after_committed z w.state.counter v (cond a counter.nothing_new (cond b (cond c counter.stored (counter.fault InvalidCommittedVote)) (counter.fault InvalidCommittedVote)))))
-      go true b c e = f
-      go false true true e = (
+          (countedAs z p w (after_committed z w.state.counter v (cond a (cond b (cond c counter.nothing_new counter.stored) (counter.fault InvalidCommittedVote)) (counter.fault InvalidCommittedVote))))
+      go true true false e = (
         with_committed_lem z w.state f.0 _ _
             (vote_more z (nodes_in w.state) v w.state.counter.committed (signer_member (nodes_in w.state) v.voter v.sig e) o f.0.committed_formed)
             (board_kept (takes_place voter_of z.nodes v.voter w.state.counter.committed) w.state.counter.committed _ w.state.counter.board
             (within_left voter_of z.nodes v w.state.counter.committed) f.0.board_worked),
         f.1,
       )
-      go false true false e = f
-      go false false c e = f
+      go true true true e = f
+      go true false c e = f
+      go false b c e = f
 
   -- what becomes of key generation
   done_formed : (own now : ℕ) (ns : List Node) (g : Found KeyGenStateOf) (m : SignedKeyGenMsgOf) (v : ℕ) → SignedOk z m → RunningFormed z own g

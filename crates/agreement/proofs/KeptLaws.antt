@@ -87,15 +87,16 @@ module _ (P : SignedVoteOf → Type 0) where
   vote_keeps : (z : Sizes) (p : ℕ) (w : RefWork) (v : SignedVoteOf) → P v → Kept w.state (ref_vote z p w v).state
   unfolding ref_vote
   vote_keeps z p w v q =
-      go (is_old v (lookup by_voter w.state.votes v.voter)) (eqb v.vote.era w.state.era && is_key_of v.sig (key_of w.state.nodes v.voter))
+      go (eqb v.vote.era w.state.era && is_key_of v.sig (key_of w.state.nodes v.voter)) (is_old v (lookup by_voter w.state.votes v.voter))
     where
       go : (a b : Bool)
           → Kept w.state
-          (cond {A = RefWork} a w
-          (cond b (record { state = votes_now w.state (insert_within by_voter z.nodes v w.state.votes); faults = w.faults }) (blamed p InvalidCommittedVote w))).state
-      go true b = kept_same w.state
-      go false true = record { era = refl; nodes = refl; params = refl; candidate = refl; votes = all_within P by_voter v q z.nodes w.state.votes }
-      go false false = kept_same w.state
+          (cond {A = RefWork} a
+          (cond b w (record { state = votes_now w.state (insert_within by_voter z.nodes v w.state.votes); faults = w.faults }))
+          (blamed p InvalidCommittedVote w)).state
+      go false b = kept_same w.state
+      go true true = kept_same w.state
+      go true false = record { era = refl; nodes = refl; params = refl; candidate = refl; votes = all_within P by_voter v q z.nodes w.state.votes }
 
   -- a key message
   module _ (w : RefWork) where

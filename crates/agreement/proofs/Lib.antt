@@ -32,3 +32,6 @@ pub mod WitnessCalls
 pub mod WitnessJoiner
 pub mod WitnessClaims
 pub mod BoardLaws
+pub mod StruckLaws
+pub mod StruckBatch
+pub mod NumberFirstLaws

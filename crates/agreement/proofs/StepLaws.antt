@@ -7,7 +7,6 @@ use mathlib.Core.Bool.{Bool, true, false, not, cond, ◌&&◌}
 use native.Mathlib.Omega.{arith}
 use lib.Dec.{eqb}
 use lib.ListN.{length, take, length-append, length-take}
-use lib.Seq.{take_all}
 use Rattle.lists.specs.Lists.{Found, found, nothing, map_found, lookup, insert, insert_within, filter}
 use Rattle.lists.proofs.FilterLaws.{filter_append}
 use Rattle.lists.proofs.SortedLaws.{map_insert, map_lookup}
@@ -33,6 +32,7 @@ use Rattle.dynamic_honey_badger.specs.State as state
 use Rattle.dynamic_honey_badger.specs.State.{StateOf, era_of, nodes_in, with_key_gen, with_store, candidate_nodes, valid_under}
 use Rattle.due.specs.declared.DueKind.TheVariants.{Ack}
 use Rattle.steps.specs.Steps.{WorkOf, with_state, blame, voted_as, committed_vote, Told, quiet, owed, blamed_proposer, blamed_signer, MessageDoneOf, told_by, done_as, handled_by, unexpected, by_key_gen, message_done, applied, settled, first_verdict, judged, committed_message, committed_contrib, begun, committed}
+use Rattle.steps.proofs.PageLaws.{more}
 use Rattle.reference.specs.Step as ref
 use Rattle.reference.specs.Step.{RefWork, blamed, is_key_of, is_old, by_voter, votes_now, ref_vote, by_index, candidate_now, ref_part_found, is_in, ref_ack_found, ref_tracked, ref_handled, is_signed, ref_message, ref_contrib, ref_contribs}
 use Rattle.agreement.specs.Shared.{part_ref, candidate_ref, ref_of, is_own_kind, is_shared, shared_faults}
@@ -45,17 +45,14 @@ ref_work w = record { state = ref_of w.state; faults = shared_faults w.faults }
 
 -- a fault that has room stands last
 module _ (z : Sizes) (xs : List Fault) (room : length xs < z.faults) where
-  kept : (f : Fault) → take z.faults (xs ++ (f ∷ [])) ≡ xs ++ (f ∷ [])
-  kept f = take_all z.faults (xs ++ (f ∷ [])) (simp length-append (omega arith))
-
   shared_kept : (f : Fault) → is_shared f ≡ true → shared_faults (take z.faults (xs ++ (f ∷ []))) ≡ shared_faults xs ++ (f ∷ [])
   unfolding filter
-  shared_kept f e = ap shared_faults (kept f) ∙ filter_append is_shared xs (f ∷ []) ∙ ap (λ (b : Bool). shared_faults xs ++ cond b (f ∷ []) []) e
+  shared_kept f e = ap shared_faults (more z.faults xs f room) ∙ filter_append is_shared xs (f ∷ []) ∙ ap (λ (b : Bool). shared_faults xs ++ cond b (f ∷ []) []) e
 
   own_kept : (f : Fault) → is_shared f ≡ false → shared_faults (take z.faults (xs ++ (f ∷ []))) ≡ shared_faults xs
   unfolding filter
   own_kept f e =
-      ap shared_faults (kept f) ∙ filter_append is_shared xs (f ∷ []) ∙ ap (λ (b : Bool). shared_faults xs ++ cond b (f ∷ []) []) e ∙ append-nil (shared_faults xs)
+      ap shared_faults (more z.faults xs f room) ∙ filter_append is_shared xs (f ∷ []) ∙ ap (λ (b : Bool). shared_faults xs ++ cond b (f ∷ []) []) e ∙ append-nil (shared_faults xs)
 
 -- a fault of a shared kind is the reference state's fault; one of the six kinds is none
 module _ (z : Sizes) (id : ℕ) (k : FaultKind) (w : WorkOf) (room : length w.faults < z.faults) where
@@ -79,19 +76,19 @@ pub vote_shared : (z : Sizes) (p : ℕ) (w : WorkOf) (v : SignedVoteOf) → leng
 unfolding committed_vote add_committed vote_effect obsolete valid_vote ref_vote
 vote_shared z p w v room =
     rw (old_is v (lookup by_voter w.state.counter.committed v.voter), key_is v.sig (key_of w.state.counter.nodes v.voter))
-    (go (at_or_below (num_of v) (map_found num_of (lookup voter_of w.state.counter.committed v.voter))) (eqb v.vote.era w.state.counter.era)
-    (is_key v.sig (key_of w.state.counter.nodes v.voter)))
+    (go (eqb v.vote.era w.state.counter.era) (is_key v.sig (key_of w.state.counter.nodes v.voter))
+    (at_or_below (num_of v) (map_found num_of (lookup voter_of w.state.counter.committed v.voter))))
   where
     go : (a b c : Bool)
-        → ref_work (voted_as z p w (after_committed z w.state.counter v (cond a counter.nothing_new (cond b (cond c counter.stored (counter.fault InvalidCommittedVote)) (counter.fault InvalidCommittedVote)))))
-        ≡ cond a (ref_work w)
-        (cond (b && c)
-        (record { state = votes_now (ref_of w.state) (insert_within by_voter z.nodes v w.state.counter.committed); faults = shared_faults w.faults })
-        (blamed p InvalidCommittedVote (ref_work w)))
-    go true b c = refl
-    go false true true = refl
-    go false true false = blame_shared z p InvalidCommittedVote w room refl
-    go false false c = blame_shared z p InvalidCommittedVote w room refl
+        → ref_work (voted_as z p w (after_committed z w.state.counter v (cond a (cond b (cond c counter.nothing_new counter.stored) (counter.fault InvalidCommittedVote)) (counter.fault InvalidCommittedVote))))
+        ≡ cond (a && b)
+        (cond c (ref_work w)
+        (record { state = votes_now (ref_of w.state) (insert_within by_voter z.nodes v w.state.counter.committed); faults = shared_faults w.faults }))
+        (blamed p InvalidCommittedVote (ref_work w))
+    go true true true = refl
+    go true true false = refl
+    go true false c = blame_shared z p InvalidCommittedVote w room refl
+    go false b c = blame_shared z p InvalidCommittedVote w room refl
 
 -- the signature of a key message: current key or candidate key
 candidate_key_is : (g : Found KeyGenStateOf) (id sig : ℕ) → ref.is_candidate_key (map_found candidate_ref g) id sig ≡ state.is_candidate_key (candidate_nodes g) id sig

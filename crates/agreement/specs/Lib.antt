@@ -5,3 +5,4 @@ pub mod Hypotheses
 pub mod Formed
 pub mod Accepted
 pub mod Witness
+pub mod NumberFirst

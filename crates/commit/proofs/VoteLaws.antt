@@ -5,7 +5,7 @@ use mathlib.Core.Path.{◌≡◌, refl, sym, ap, ◌∙◌, subst}
 use mathlib.Core.List.{List}
 use mathlib.Core.Bool.{Bool, true, false, cond}
 use lib.Dec.{eqb}
-use borrow.Author.Tests.{eqb-true}
+use borrow.Author.Tests.{eqb-true, eq-eqb}
 use Rattle.std.specs.declared.option.Option.TheVariants.{Some, None}
 use Rattle.lists.specs.Lists.{insert_within}
 use Rattle.lists.proofs.ListLaws.{false_true}
@@ -40,43 +40,45 @@ good_parts era ns h g = go (eqb h.era era) refl g
     go true e k = (eqb-true h.era era e, k)
     go false e k = absurd (false_true k)
 
--- a vote that is obsolete changes nothing; one that is not, and not good, is a fault
+-- a vote that is not good is a fault; a good one that is obsolete changes nothing
 module _ (c : CounterOf) (v : SignedVoteOf) where
-  add_old : obsolete c.committed v ≡ true → add_committed base c v ≡ record { counter = c; effect = nothing_new }
-  unfolding add_committed vote_effect
-  add_old o = rw o
-
-  add_bad : obsolete c.committed v ≡ false → good_head c.era c.nodes (head_of v) ≡ false → add_committed base c v ≡ record { counter = c; effect = fault InvalidCommittedVote }
+  add_bad : good_head c.era c.nodes (head_of v) ≡ false → add_committed base c v ≡ record { counter = c; effect = fault InvalidCommittedVote }
   unfolding add_committed vote_effect valid_vote good_head
-  add_bad o g = rw o (go (eqb v.vote.era c.era) (is_key v.sig (key_of c.nodes (voter_of v))) g)
+  add_bad g = go (eqb v.vote.era c.era) (is_key v.sig (key_of c.nodes (voter_of v))) (obsolete c.committed v) g
     where
-      go : (p q : Bool) → cond p q false ≡ false
-          → after_committed base c v (cond p (cond q stored (fault InvalidCommittedVote)) (fault InvalidCommittedVote)) ≡ record { counter = c; effect = fault InvalidCommittedVote }
-      go true true k = absurd (false_true (sym k))
-      go true false k = refl
-      go false q k = refl
+      go : (p q o : Bool) → cond p q false ≡ false
+          → after_committed base c v (cond p (cond q (cond o nothing_new stored) (fault InvalidCommittedVote)) (fault InvalidCommittedVote)) ≡ record { counter = c; effect = fault InvalidCommittedVote }
+      go true true o k = absurd (false_true (sym k))
+      go true false o k = refl
+      go false q o k = refl
+
+  add_old : v.vote.era ≡ c.era → is_key v.sig (key_of c.nodes (voter_of v)) ≡ true → obsolete c.committed v ≡ true → add_committed base c v ≡ record { counter = c; effect = nothing_new }
+  unfolding add_committed vote_effect valid_vote
+  add_old e k o = rw (eq-eqb v.vote.era c.era e, k, o)
 
 module _ (s : List ℕ) (era : ℕ) (ns : List Node) (start : Begun) (w : WorkOf) (t : Tally) (h : VotesHeld s start w era ns t) (v : SignedVoteOf) (proposer : ℕ) where
   known : obsolete w.state.counter.committed v ≡ outdated (entries_of t) (voter_of v) (num_of v)
   known = sym (outdated_is s era ns v h.by_entry)
 
-  vote_old : outdated (entries_of t) (voter_of v) (num_of v) ≡ true → committed_vote base proposer w v ≡ w
+  vote_bad : good_head era ns (head_of v) ≡ false → committed_vote base proposer w v ≡ blame base proposer InvalidCommittedVote w
   unfolding committed_vote
-  vote_old o = ap (voted_as base proposer w) (add_old w.state.counter v (known ∙ o))
+  vote_bad g = ap (voted_as base proposer w) (add_bad w.state.counter v (rw (h.by_era, h.by_map) g))
 
-  module _ (o : outdated (entries_of t) (voter_of v) (num_of v) ≡ false) where
-    vote_bad : good_head era ns (head_of v) ≡ false → committed_vote base proposer w v ≡ blame base proposer InvalidCommittedVote w
+  module _ (g : good_head era ns (head_of v) ≡ true) where
+    vote_old : outdated (entries_of t) (voter_of v) (num_of v) ≡ true → committed_vote base proposer w v ≡ w
     unfolding committed_vote
-    vote_bad g = ap (voted_as base proposer w) (add_bad w.state.counter v (known ∙ o) (rw (h.by_era, h.by_map) g))
+    vote_old o =
+        let p = good_parts era ns (head_of v) g in
+        ap (voted_as base proposer w) (add_old w.state.counter v (p.0 ∙ sym h.by_era) (rw h.by_map p.1) (known ∙ o))
 
-    vote_good : good_head era ns (head_of v) ≡ true
+    vote_good : outdated (entries_of t) (voter_of v) (num_of v) ≡ false
         → committed_vote base proposer w v ≡ with_state w (with_counter w.state (after_committed base w.state.counter v stored).counter)
     unfolding committed_vote
-    vote_good g =
+    vote_good o =
         let p = good_parts era ns (head_of v) g in
         ap (voted_as base proposer w) (add_good base w.state.counter v (known ∙ o) (p.0 ∙ sym h.by_era) (rw h.by_map p.1))
 
--- a vote with a head, which stands at a place: one that is old, one that is not good, and a good one
+-- a vote with a head, which stands at a place: one that is not good, a good one that is old, and a good new one
 module _ (t : Terms) (place : ℕ) (h : VoteHead) (tally : Tally) where
   number_told : (b : Bool) → outdated (entries_of tally) h.voter h.num ≡ b → (v : SignedVoteOf) → h ≡ head_of v → outdated (entries_of tally) (voter_of v) (num_of v) ≡ b
   number_told b o v e = subst (λ (x : VoteHead). outdated (entries_of tally) x.voter x.num ≡ b) e o
@@ -84,23 +86,24 @@ module _ (t : Terms) (place : ℕ) (h : VoteHead) (tally : Tally) where
   good_told : (b : Bool) → good_head t.era (nodes_by t) h ≡ b → (v : SignedVoteOf) → h ≡ head_of v → good_head t.era (nodes_by t) (head_of v) ≡ b
   good_told b g v e = subst (λ (x : VoteHead). good_head t.era (nodes_by t) x ≡ b) e g
 
-  pub old_vote : outdated (entries_of tally) h.voter h.num ≡ true → VoteCommitted t place h tally tally None
-  old_vote o v c stands same w start proposer held = rw (vote_old t.bytes.now t.era (nodes_by t) start w tally held v proposer (number_told true o v same)) (held, refl)
+  pub bad_vote : good_head t.era (nodes_by t) h ≡ false → VoteCommitted t place h tally tally (Some InvalidCommittedVote)
+  bad_vote g v c stands same w start proposer held =
+      rw (vote_bad t.bytes.now t.era (nodes_by t) start w tally held v proposer (good_told false g v same)) (
+        record { by_era = held.by_era; by_map = held.by_map; by_entry = held.by_entry; by_board = held.by_board; room = held.room },
+        refl,
+      )
 
-  module _ (o : outdated (entries_of tally) h.voter h.num ≡ false) where
-    pub bad_vote : good_head t.era (nodes_by t) h ≡ false → VoteCommitted t place h tally tally (Some InvalidCommittedVote)
-    bad_vote g v c stands same w start proposer held =
-        rw (vote_bad t.bytes.now t.era (nodes_by t) start w tally held v proposer (number_told false o v same) (good_told false g v same)) (
-          record { by_era = held.by_era; by_map = held.by_map; by_entry = held.by_entry; by_board = held.by_board; room = held.room },
-          refl,
-        )
+  module _ (g : good_head t.era (nodes_by t) h ≡ true) where
+    pub old_vote : outdated (entries_of tally) h.voter h.num ≡ true → VoteCommitted t place h tally tally None
+    old_vote o v c stands same w start proposer held =
+        rw (vote_old t.bytes.now t.era (nodes_by t) start w tally held v proposer (good_told true g v same) (number_told true o v same)) (held, refl)
 
     abbrev put : Entry
     put = record { voter = h.voter; num = h.num; place = Some place }
 
-    pub good_vote : good_head t.era (nodes_by t) h ≡ true → (tally' : Tally) → entries_of tally' ≡ insert_within entry_voter base.nodes put (entries_of tally)
+    pub good_vote : outdated (entries_of tally) h.voter h.num ≡ false → (tally' : Tally) → entries_of tally' ≡ insert_within entry_voter base.nodes put (entries_of tally)
         → VoteCommitted t place h tally tally' None
-    good_vote g tally' e v c stands same w start proposer held =
+    good_vote o tally' e v c stands same w start proposer held =
         let n = number_told false o v same in
         let k = good_told true g v same in
         let parts = good_parts t.era (nodes_by t) (head_of v) k in
@@ -114,7 +117,7 @@ module _ (t : Terms) (place : ℕ) (h : VoteHead) (tally : Tally) where
           of_era = parts.0;
           signed = parts.1;
         } in
-        rw (vote_good t.bytes.now t.era (nodes_by t) start w tally held v proposer n k) (
+        rw (vote_good t.bytes.now t.era (nodes_by t) start w tally held v proposer k n) (
           record {
             by_era = held.by_era;
             by_map = held.by_map;

@@ -25,15 +25,15 @@ fn is_good(terms: &Terms<'_>, h: VoteHead) -> bool
     h.era == terms.era && vote_counter::is_key(terms.map, h.voter, h.sig)
 }
 
-// Step 3: a vote by its head, whose bytes stand at a place: an old one changes nothing, and one that is not good is a fault of its proposer.
+// Step 3, in the order of 02, CR 6: a vote by its head, whose bytes stand at a place: one that is not good is a fault of its proposer, an old one changes nothing.
 fn commit_vote(terms: &Terms<'_>, h: VoteHead, place: usize, tally: &mut Tally) -> Option<FaultKind>
     ensures { VoteCommitted terms.now place h tally.old tally.new result }
 {
-    if tally.is_obsolete(h.voter, h.num) {
-        return None;
-    }
     if !is_good(terms, h) {
         return Some(FaultKind::InvalidCommittedVote);
+    }
+    if tally.is_obsolete(h.voter, h.num) {
+        return None;
     }
     tally.entries.insert(Entry {
         voter: h.voter,

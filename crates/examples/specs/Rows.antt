@@ -1,4 +1,4 @@
--- 01, "Half-marathon examples": the marked ones (*), in their order; and 02's key messages of a leaving node, boards and join plans in both editions. A later layer adds its own kind of row here.
+-- 01, "Half-marathon examples": the marked ones (*), in their order; and 02's key messages of a leaving node, boards, join plans in both editions and votes of old numbers. A later layer adds its own kind of row here.
 use Rattle.std.specs.Prelude.{ℕ, zero, suc, ◌+◌, ◌-◌, ◌^◌, ◌≡◌, List, [], ◌∷◌, Bool, true, false, length, take, replicate}
 use Rattle.lists.specs.Lists.{Found, found, nothing}
 use Rattle.bincode.specs.Read.{value, whole}
@@ -18,7 +18,7 @@ use Rattle.params.specs.declared.SubsetHandlingStrategy.TheVariants.{Incremental
 use Rattle.join_plan.specs.JoinPlan.{PlanOf, read_plan, plan_bytes, plan_converted, conversion_said}
 use Rattle.key_gen_message.specs.KeyGenMessage.{part, ack, SignedKeyGenMsgOf}
 use Rattle.fault_log.specs.declared.FaultKind.{FaultKind}
-use Rattle.fault_log.specs.declared.FaultKind.TheVariants.{UnexpectedKeyGenPart, UnexpectedKeyGenAck}
+use Rattle.fault_log.specs.declared.FaultKind.TheVariants.{InvalidCommittedVote, UnexpectedKeyGenPart, UnexpectedKeyGenAck}
 use Rattle.fault_log.specs.declared.Fault.{Fault}
 use Rattle.internal_contrib.specs.InternalContrib.{ContribOf}
 use Rattle.reference.specs.Reference.{PartRef, RefState, open_ref}
@@ -36,6 +36,8 @@ pub data Row : Type 0 where
   moved : RefState → ℕ → List ContribOf → ℕ → ℕ → Row
   -- the faults that a batch with an inner epoch reports
   blamed : RefState → ℕ → List ContribOf → List Fault → Row
+  -- the votes that are stored behind it (02, CR 6)
+  kept : RefState → ℕ → List ContribOf → List SignedVoteOf → Row
   -- the board of some voters with their choices: counts and choices, in order (02, CR 3)
   shown : List (Cast ChangeOf) → List (ℕ × ChangeOf) → Row
   -- a vote as bytes
@@ -126,6 +128,29 @@ leaving era =
 abbrev pub fault_of : ℕ → FaultKind → Fault
 fault_of i k = record { node_id = i; kind = k }
 
+-- a vote of the second node, in an era and with a number, under a key (its own is 12)
+abbrev pub second : ℕ → ℕ → ℕ → ChangeOf → SignedVoteOf
+second era num key c = record { vote = record { change = c; era = era; num = num }; voter = 2; sig = key }
+
+-- the second node gets key 22: key generation runs for that map. Its vote with number 1 is stored.
+abbrev pub renewed_in : ℕ → ChangeOf → RefState
+renewed_in era c =
+    record {
+      era = era;
+      nodes = four;
+      params = (in_era era).params;
+      votes = second era 1 12 c ∷ [];
+      candidate = found (record { nodes = record { id = 1; key = 11 } ∷ record { id = 2; key = 22 } ∷ nodes_from 3 2; parts = [] });
+    }
+
+-- The first node proposes votes of old numbers: of another era, under no key, both, under the key to come, and a valid one. The third node proposes a new one, and
+-- behind it, so old too: one under no key and a valid one; and the vote of a node that is in no map.
+abbrev pub forged : ℕ → ChangeOf → ChangeOf → List ContribOf
+forged era c d =
+    record { id = 1; user = []; messages = []; votes = second (era + 1) 1 12 d ∷ second era 0 0 d ∷ second (era + 1) 0 0 d ∷ second era 1 22 d ∷ second era 1 12 d ∷ [] }
+    ∷ record { id = 3; user = []; messages = []; votes = second era 2 12 d ∷ second era 2 0 c ∷ second era 2 12 c ∷ vote_of era 9 c ∷ [] }
+    ∷ []
+
 -- bytes of the edition a converted to b, in a buffer of zeros: accepted as the other bytes, with their length
 abbrev pub Converts : Edition → Edition → ℕ → List ℕ → List ℕ → Type 0
 Converts a b room s t =
@@ -164,6 +189,7 @@ Holds (won n choices r) = first_past (max_faulty n) (votes_from 1 choices) ≡ r
 Holds (finished n acks b) = is_ready (record { nodes = nodes_from 1 n; parts = parts_from 0 acks }) ≡ b
 Holds (moved s inner cs epoch era) = (epoch_of (ref_batch base s inner cs).answer ≡ done epoch) × ((ref_batch base s inner cs).state.era ≡ era)
 Holds (blamed s inner cs fs) = faults_of (ref_batch base s inner cs).answer ≡ done fs
+Holds (kept s inner cs vs) = (ref_batch base s inner cs).state.votes ≡ vs
 Holds (shown vs rs) = shown_of (board.board same_change vs) ≡ rs
 Holds (encoded v bytes) = vote_bytes v ≡ bytes
 Holds (planned p old new) =
@@ -239,4 +265,9 @@ rows =
     0 ∷
     253 ∷ 0 ∷ 0 ∷ 0 ∷ 0 ∷ 1 ∷ 0 ∷ 0 ∷ 0 ∷ 0 ∷ 1 ∷ [])
     ∷ long long_plan 448 491
+    -- 02, CR 6: a wrong vote is one fault of its proposer, whatever its number, a valid old one is nothing, and the valid new one is stored
+    ∷ blamed (renewed_in 5 X) 3 (forged 5 X Y)
+    (fault_of 1 InvalidCommittedVote ∷ fault_of 1 InvalidCommittedVote ∷ fault_of 1 InvalidCommittedVote ∷ fault_of 1 InvalidCommittedVote ∷
+    fault_of 3 InvalidCommittedVote ∷ fault_of 3 InvalidCommittedVote ∷ [])
+    ∷ kept (renewed_in 5 X) 3 (forged 5 X Y) (second 5 2 12 Y ∷ [])
     ∷ []

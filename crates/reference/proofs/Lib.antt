@@ -9,3 +9,4 @@ pub mod ReadyLaws
 pub mod BatchLaws
 pub mod ReportLaws
 pub mod WithLeaving
+pub mod VoteOutcomes

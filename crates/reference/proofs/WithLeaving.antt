@@ -39,15 +39,15 @@ module _ (fs : List Fault) where
   vote_behind : (z : Sizes) (p : ℕ) (w : RefWork) (v : SignedVoteOf) → ref_vote z p (behind fs w) v ≡ behind fs (ref_vote z p w v)
   unfolding ref_vote
   vote_behind z p w v =
-      go (is_old v (lookup by_voter w.state.votes v.voter)) (eqb v.vote.era w.state.era && is_key_of v.sig (key_of w.state.nodes v.voter))
+      go (eqb v.vote.era w.state.era && is_key_of v.sig (key_of w.state.nodes v.voter)) (is_old v (lookup by_voter w.state.votes v.voter))
       (votes_now w.state (insert_within by_voter z.nodes v w.state.votes))
     where
       go : (a b : Bool) (s : RefState)
-          → cond a (behind fs w) (cond b (record { state = s; faults = fs ++ w.faults }) (blamed p InvalidCommittedVote (behind fs w)))
-          ≡ behind fs (cond a w (cond b (record { state = s; faults = w.faults }) (blamed p InvalidCommittedVote w)))
-      go true b s = refl
-      go false true s = refl
-      go false false s = blamed_behind p InvalidCommittedVote w
+          → cond a (cond b (behind fs w) (record { state = s; faults = fs ++ w.faults })) (blamed p InvalidCommittedVote (behind fs w))
+          ≡ behind fs (cond a (cond b w (record { state = s; faults = w.faults })) (blamed p InvalidCommittedVote w))
+      go false b s = blamed_behind p InvalidCommittedVote w
+      go true true s = refl
+      go true false s = refl
 
   -- a part and an ack, by what is recorded
   module _ (w : RefWork) (signer : ℕ) (g : CandidateRef) where

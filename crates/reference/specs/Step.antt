@@ -38,8 +38,8 @@ abbrev pub is_key_of : ℕ → Found ℕ → Bool
 is_key_of sig (found key) = eqb key sig
 is_key_of sig nothing = false
 
--- Step 3. A vote numbered at or below the voter's stored one changes nothing and makes no fault. Otherwise a wrong era or signature is `InvalidCommittedVote` on
--- the proposer. Otherwise it replaces the stored one.
+-- Step 3, in the order of 02, CR 6. A wrong era or signature is `InvalidCommittedVote` on the proposer, whatever the number. Otherwise a vote numbered at or below the
+-- voter's stored one changes nothing and makes no fault. Otherwise it replaces the stored one.
 abbrev pub by_voter : SignedVoteOf → ℕ
 by_voter v = v.voter
 
@@ -52,10 +52,10 @@ votes_now s vs = record { era = s.era; nodes = s.nodes; params = s.params; votes
 
 unfoldable pub ref_vote : Sizes → ℕ → RefWork → SignedVoteOf → RefWork
 ref_vote z proposer w v =
-    cond (is_old v (lookup by_voter w.state.votes v.voter)) w
-    (cond (eqb v.vote.era w.state.era && is_key_of v.sig (key_of w.state.nodes v.voter))
-    (record { state = votes_now w.state (insert_within by_voter z.nodes v w.state.votes); faults = w.faults })
-    (blamed proposer InvalidCommittedVote w))
+    cond (eqb v.vote.era w.state.era && is_key_of v.sig (key_of w.state.nodes v.voter))
+    (cond (is_old v (lookup by_voter w.state.votes v.voter)) w
+    (record { state = votes_now w.state (insert_within by_voter z.nodes v w.state.votes); faults = w.faults }))
+    (blamed proposer InvalidCommittedVote w)
 
 -- Step 5. A part: wrong row count, then a different commitment, are faults on the signer; the same one again is nothing; a new one is recorded.
 abbrev pub by_index : PartRef → ℕ

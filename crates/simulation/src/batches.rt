@@ -161,6 +161,20 @@ pub(crate) fn one_vote(
     batch(alloc, 46, &[], &[vote(era, id, change)])
 }
 
+// One vote for a change, which verifies under no key.
+pub(crate) fn forged_vote(
+    alloc: Global,
+    era: u64,
+    id: u32,
+    change: Change,
+) -> Result<Vec<u8>, AllocError> {
+    let forged = SignedVote {
+        sig: 0,
+        ..vote(era, id, change)
+    };
+    batch(alloc, 47, &[], &[forged])
+}
+
 // One part, of a node that need not be in the map.
 pub(crate) fn one_part(
     alloc: Global,

@@ -1,4 +1,4 @@
-// The season: a node is added, a schedule is chosen, a replica joins while a node leaves, a vote waits for another.
+// The season: a node is added, a schedule is chosen, a replica joins while a node leaves, a vote waits for another, and comes again forged.
 use crate::compare::shared_difference;
 use crate::fleet::{Fleet, Given, network};
 use crate::{batches, show};
@@ -139,14 +139,17 @@ fn end(rt: &impl Print, f: &mut Fleet) -> anyhow::Result<()> {
     f.take(rt, 11, Given::new(9, 0, &nothing))
 }
 
-// Steps 12 and 13: the vote of node 1 alone stays committed, and that of node 3, which has left, is a fault; with the vote of node 2 the schedule wins.
+// Steps 12 to 14: the vote of node 1 alone stays committed, and that of node 3, which has left, is a fault; node 1's comes again under no key, and is one too, though its number is old;
+// with the vote of node 2 the schedule wins.
 fn wait(rt: &impl Print, f: &mut Fleet) -> anyhow::Result<()> {
     let alloc = f.alloc;
     let change = Change::schedule(EncryptionSchedule::EveryNthEpoch(2));
     let with_leaver = batches::votes(alloc, 9, 3, change)?;
     f.take(rt, 12, Given::new(9, 1, &with_leaver))?;
+    let again = batches::forged_vote(alloc, 9, 1, change)?;
+    f.take(rt, 13, Given::new(9, 2, &again))?;
     let second = batches::one_vote(alloc, 9, 2, change)?;
-    f.take(rt, 13, Given::new(9, 2, &second))
+    f.take(rt, 14, Given::new(9, 3, &second))
 }
 
 // All of it.

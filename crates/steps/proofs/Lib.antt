@@ -2,3 +2,4 @@ pub mod BatchLaws
 pub mod PageLaws
 pub mod VerdictLaws
 pub mod KeepLaws
+pub mod VoteOutcomes

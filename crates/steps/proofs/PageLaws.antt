@@ -29,7 +29,7 @@ use Rattle.dynamic_honey_badger.proofs.PageMessageLaws.{SignedBy, signed_valid, 
 use Rattle.steps.specs.Steps.{WorkOf, committed_vote, message_done, committed_message}
 
 -- one more goes behind those there are, where the list has room
-more : {A : Type 0} (n : ℕ) (xs : List A) (x : A) → length xs < n → take n (xs ++ (x ∷ [])) ≡ xs ++ (x ∷ [])
+pub more : {A : Type 0} (n : ℕ) (xs : List A) (x : A) → length xs < n → take n (xs ++ (x ∷ [])) ≡ xs ++ (x ∷ [])
 more n xs x h = take_all n (xs ++ (x ∷ [])) (simp length-append (omega arith))
 
 -- a fault as it stands in the log
@@ -38,26 +38,26 @@ fault_of id k = record { node_id = id; kind = k }
 
 -- step 3: a vote of a contribution
 module _ (z : Sizes) (proposer : ℕ) (w : WorkOf) (v : SignedVoteOf) where
-  -- "A vote numbered at or below the voter's stored one changes nothing and makes no fault"
-  pub old_vote : AtOrBelow w.state.counter.committed v → committed_vote z proposer w v ≡ w
-  unfolding committed_vote
-  old_vote h = rw (committed_old z w.state.counter v h)
+  -- 02, CR 6: a wrong era is `InvalidCommittedVote` on the proposer, whatever signature and number are; a wrong signature is, whatever era and number are
+  module _ (room : length w.faults < z.faults) where
+    pub other_era_vote : (v.vote.era ≡ w.state.counter.era → ⊥)
+        → committed_vote z proposer w v ≡ record { state = w.state; faults = w.faults ++ (fault_of proposer InvalidCommittedVote ∷ []); due = w.due; verdicts = w.verdicts }
+    unfolding committed_vote
+    other_era_vote h = rw (committed_era z w.state.counter v h, more z.faults w.faults (fault_of proposer InvalidCommittedVote) room)
 
-  module _ (new : Newer w.state.counter.committed v) where
-    -- "Otherwise a wrong era or signature is `InvalidCommittedVote` on the proposer"
-    module _ (room : length w.faults < z.faults) where
-      pub other_era_vote : (v.vote.era ≡ w.state.counter.era → ⊥)
-          → committed_vote z proposer w v ≡ record { state = w.state; faults = w.faults ++ (fault_of proposer InvalidCommittedVote ∷ []); due = w.due; verdicts = w.verdicts }
-      unfolding committed_vote
-      other_era_vote h = rw (committed_era z w.state.counter v new h, more z.faults w.faults (fault_of proposer InvalidCommittedVote) room)
+    pub unsigned_vote : (key_of w.state.counter.nodes v.voter ≡ found v.sig → ⊥)
+        → committed_vote z proposer w v ≡ record { state = w.state; faults = w.faults ++ (fault_of proposer InvalidCommittedVote ∷ []); due = w.due; verdicts = w.verdicts }
+    unfolding committed_vote
+    unsigned_vote h = rw (committed_signature z w.state.counter v h, more z.faults w.faults (fault_of proposer InvalidCommittedVote) room)
 
-      pub unsigned_vote : v.vote.era ≡ w.state.counter.era → (key_of w.state.counter.nodes v.voter ≡ found v.sig → ⊥)
-          → committed_vote z proposer w v ≡ record { state = w.state; faults = w.faults ++ (fault_of proposer InvalidCommittedVote ∷ []); due = w.due; verdicts = w.verdicts }
-      unfolding committed_vote
-      unsigned_vote e h = rw (committed_signature z w.state.counter v new e h, more z.faults w.faults (fault_of proposer InvalidCommittedVote) room)
+  module _ (now : v.vote.era ≡ w.state.counter.era) (signed : key_of w.state.counter.nodes v.voter ≡ found v.sig) where
+    -- "An old number on a valid vote still does nothing", and makes no fault
+    pub old_vote : AtOrBelow w.state.counter.committed v → committed_vote z proposer w v ≡ w
+    unfolding committed_vote
+    old_vote h = rw (committed_old z w.state.counter v now signed h)
 
     -- "Otherwise it replaces the stored one"; where it took a place, the board is worked out from the votes then (02, CR 3)
-    pub vote_replaces : v.vote.era ≡ w.state.counter.era → key_of w.state.counter.nodes v.voter ≡ found v.sig
+    pub vote_replaces : Newer w.state.counter.committed v
         → committed_vote z proposer w v
         ≡ record {
           state = record {
@@ -82,7 +82,7 @@ module _ (z : Sizes) (proposer : ℕ) (w : WorkOf) (v : SignedVoteOf) where
           verdicts = w.verdicts;
         }
     unfolding committed_vote
-    vote_replaces e h = rw (committed_replaces z w.state.counter v new e h)
+    vote_replaces new = rw (committed_replaces z w.state.counter v now signed new)
 
 -- steps 4 and 5: a key message of a contribution, with its verdict, the first of those left
 module _ (z : Sizes) (proposer : ℕ) (w : WorkOf) (m : SignedKeyGenMsgOf) (verdict : ℕ) (verdicts : List ℕ) (judged : w.verdicts ≡ verdict ∷ verdicts) where

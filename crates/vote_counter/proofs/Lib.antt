@@ -6,3 +6,4 @@ pub mod FewLaws
 pub mod OnceLaws
 pub mod BoardKept
 pub mod BoardPage
+pub mod NumberFirst

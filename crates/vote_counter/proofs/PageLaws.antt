@@ -3,21 +3,23 @@
 use Prim.Native.Nat.{ℕ, ◌+◌, ◌≤◌, ◌<◌}
 use mathlib.Core.Path.{◌≡◌, refl, ap}
 use mathlib.Core.List.{List, [], ◌∷◌, ◌++◌}
-use mathlib.Core.Bool.{true, false, cond}
+use mathlib.Core.Bool.{Bool, true, false, cond}
 use native.Mathlib.Omega.{arith}
+use lib.Dec.{eqb}
 use lib.ListN.{length}
 use borrow.Author.Tests.{le-leb, lt-leb, eq-eqb, ne_eqb}
 use Rattle.lists.proofs.PlaceLaws.{at_between}
 use Rattle.lists.specs.Lists.{Found, found, nothing, at_place, map_found, lookup, insert_within, takes_place, filter}
 use Rattle.bincode.specs.Sizes.{Sizes}
 use Rattle.bincode.specs.Outcome.{done, refused}
+use Rattle.pub_key_map.specs.declared.Node.{Node}
 use Rattle.network_info.specs.NetworkInfo.{key_of}
 use Rattle.change.specs.Change.{ChangeOf}
 use Rattle.votes.specs.Votes.{SignedVoteOf}
 use Rattle.signed_votes.specs.SignedVotes.{num_of}
 use Rattle.board.specs.Board.{worked_out}
 use Rattle.fault_log.specs.declared.FaultKind.TheVariants.{InvalidVoteSignature, InvalidCommittedVote}
-use Rattle.vote_counter.specs.VoteCounter.{CounterOf, at_or_below, obsolete, is_key, valid_vote, stored, nothing_new, fault, vote_effect, pending_effect, add_pending, add_committed, sign_vote_for, pending_votes}
+use Rattle.vote_counter.specs.VoteCounter.{CounterOf, at_or_below, obsolete, is_key, valid_vote, stored, nothing_new, fault, vote_effect, pending_effect, after_committed, add_pending, add_committed, sign_vote_for, pending_votes}
 
 -- a voter's vote among some
 abbrev vote_of : List SignedVoteOf → ℕ → Found SignedVoteOf
@@ -34,11 +36,11 @@ AtOrBelow vs v = (old : SignedVoteOf) × (vote_of vs v.voter ≡ found old) × (
 abbrev pub Newer : List SignedVoteOf → SignedVoteOf → Type 0
 Newer vs v = (old : SignedVoteOf) → vote_of vs v.voter ≡ found old → old.vote.num < v.vote.num
 
-old_obsolete : (vs : List SignedVoteOf) (v : SignedVoteOf) → AtOrBelow vs v → obsolete vs v ≡ true
+pub old_obsolete : (vs : List SignedVoteOf) (v : SignedVoteOf) → AtOrBelow vs v → obsolete vs v ≡ true
 unfolding obsolete
 old_obsolete vs v h = rw (h.1, le-leb v.vote.num h.0.vote.num h.2)
 
-newer_not : (vs : List SignedVoteOf) (v : SignedVoteOf) → Newer vs v → obsolete vs v ≡ false
+pub newer_not : (vs : List SignedVoteOf) (v : SignedVoteOf) → Newer vs v → obsolete vs v ≡ false
 unfolding obsolete
 newer_not vs v h = go (vote_of vs v.voter) h
   where
@@ -47,41 +49,45 @@ newer_not vs v h = go (vote_of vs v.voter) h
     go nothing h = refl
 
 -- signed under the voter's key of the current map, and not so
-signed_valid : (c : CounterOf) (v : SignedVoteOf) → key_of c.nodes v.voter ≡ found v.sig → valid_vote c.nodes v ≡ true
+pub signed_valid : (ns : List Node) (v : SignedVoteOf) → key_of ns v.voter ≡ found v.sig → valid_vote ns v ≡ true
 unfolding valid_vote
-signed_valid c v e = rw e (eq-eqb v.sig v.sig refl)
+signed_valid ns v e = rw e (eq-eqb v.sig v.sig refl)
 
-unsigned_not : (c : CounterOf) (v : SignedVoteOf) → (key_of c.nodes v.voter ≡ found v.sig → ⊥) → valid_vote c.nodes v ≡ false
+pub unsigned_not : (ns : List Node) (v : SignedVoteOf) → (key_of ns v.voter ≡ found v.sig → ⊥) → valid_vote ns v ≡ false
 unfolding valid_vote
-unsigned_not c v h = go (key_of c.nodes v.voter) h
+unsigned_not ns v h = go (key_of ns v.voter) h
   where
     go : (x : Found ℕ) → (x ≡ found v.sig → ⊥) → is_key v.sig x ≡ false
     go (found key) h = ne_eqb key v.sig (λ e. h (ap found e))
     go nothing h = refl
 
 module _ (z : Sizes) (c : CounterOf) (v : SignedVoteOf) where
-  -- 01, step 3: "A vote numbered at or below the voter's stored one changes nothing and makes no fault", whatever its era and signature
-  pub committed_old : AtOrBelow c.committed v → add_committed z c v ≡ record { counter = c; effect = nothing_new }
+  -- 02, CR 6: "the order of checks on a committed vote becomes era, signature, number": a wrong era is `InvalidCommittedVote`, whatever signature and number are
+  pub committed_era : (v.vote.era ≡ c.era → ⊥) → add_committed z c v ≡ record { counter = c; effect = fault InvalidCommittedVote }
   unfolding add_committed vote_effect
-  committed_old h = rw (old_obsolete c.committed v h)
+  committed_era h = rw (ne_eqb _ _ h)
 
-  module _ (new : Newer c.committed v) where
-    -- "Otherwise a wrong era or signature is `InvalidCommittedVote`"
-    pub committed_era : (v.vote.era ≡ c.era → ⊥) → add_committed z c v ≡ record { counter = c; effect = fault InvalidCommittedVote }
+  -- a wrong signature is, whatever era and number are
+  pub committed_signature : (key_of c.nodes v.voter ≡ found v.sig → ⊥) → add_committed z c v ≡ record { counter = c; effect = fault InvalidCommittedVote }
+  unfolding add_committed vote_effect
+  committed_signature h = rw (unsigned_not c.nodes v h) (go (eqb v.vote.era c.era))
+    where
+      go : (b : Bool) → after_committed z c v (cond b (fault InvalidCommittedVote) (fault InvalidCommittedVote)) ≡ record { counter = c; effect = fault InvalidCommittedVote }
+      go true = refl
+      go false = refl
+
+  module _ (now : v.vote.era ≡ c.era) (signed : key_of c.nodes v.voter ≡ found v.sig) where
+    -- "An old number on a valid vote still does nothing"
+    pub committed_old : AtOrBelow c.committed v → add_committed z c v ≡ record { counter = c; effect = nothing_new }
     unfolding add_committed vote_effect
-    committed_era h = rw (newer_not c.committed v new, ne_eqb _ _ h)
+    committed_old h = rw (eq-eqb _ _ now, signed_valid c.nodes v signed, old_obsolete c.committed v h)
 
-    module _ (now : v.vote.era ≡ c.era) where
-      pub committed_signature : (key_of c.nodes v.voter ≡ found v.sig → ⊥) → add_committed z c v ≡ record { counter = c; effect = fault InvalidCommittedVote }
-      unfolding add_committed vote_effect
-      committed_signature h = rw (newer_not c.committed v new, eq-eqb _ _ now, unsigned_not c v h)
-
-      -- "Otherwise it replaces the stored one": among the committed votes alone
-      pub committed_replaces : key_of c.nodes v.voter ≡ found v.sig
-          → add_committed z c v
-          ≡ record { counter = record { our_id = c.our_id; our_key = c.our_key; nodes = c.nodes; era = c.era; pending = c.pending; committed = replaced z v c.committed; board = cond (takes_place (λ (x : SignedVoteOf). x.voter) z.nodes v.voter c.committed) (worked_out (replaced z v c.committed)) c.board }; effect = stored }
-      unfolding add_committed vote_effect
-      committed_replaces e = rw (newer_not c.committed v new, eq-eqb _ _ now, signed_valid c v e)
+    -- 01, step 3: "Otherwise it replaces the stored one": among the committed votes alone
+    pub committed_replaces : Newer c.committed v
+        → add_committed z c v
+        ≡ record { counter = record { our_id = c.our_id; our_key = c.our_key; nodes = c.nodes; era = c.era; pending = c.pending; committed = replaced z v c.committed; board = cond (takes_place (λ (x : SignedVoteOf). x.voter) z.nodes v.voter c.committed) (worked_out (replaced z v c.committed)) c.board }; effect = stored }
+    unfolding add_committed vote_effect
+    committed_replaces new = rw (eq-eqb _ _ now, signed_valid c.nodes v signed, newer_not c.committed v new)
 
   -- a received vote: of another era it is nothing (of a later one the fault is the message's)
   pub received_era : (v.vote.era ≡ c.era → ⊥) → add_pending z c v ≡ record { counter = c; effect = nothing_new }
@@ -98,14 +104,14 @@ module _ (z : Sizes) (c : CounterOf) (v : SignedVoteOf) where
       -- under no key of its voter it is a fault
       pub received_signature : (key_of c.nodes v.voter ≡ found v.sig → ⊥) → add_pending z c v ≡ record { counter = c; effect = fault InvalidVoteSignature }
       unfolding add_pending pending_effect
-      received_signature h = rw (eq-eqb _ _ now, newer_not c.pending v new, unsigned_not c v h)
+      received_signature h = rw (eq-eqb _ _ now, newer_not c.pending v new, unsigned_not c.nodes v h)
 
       -- else it replaces the pending one; what is committed stays
       pub received_replaces : key_of c.nodes v.voter ≡ found v.sig
           → add_pending z c v
           ≡ record { counter = record { our_id = c.our_id; our_key = c.our_key; nodes = c.nodes; era = c.era; pending = replaced z v c.pending; committed = c.committed; board = c.board }; effect = stored }
       unfolding add_pending pending_effect
-      received_replaces e = rw (eq-eqb _ _ now, newer_not c.pending v new, signed_valid c v e)
+      received_replaces e = rw (eq-eqb _ _ now, newer_not c.pending v new, signed_valid c.nodes v e)
 
 -- an own vote: for the change, of the current era, by the own id, under the own key; it replaces the own pending one
 module _ (z : Sizes) (c : CounterOf) (change : ChangeOf) where

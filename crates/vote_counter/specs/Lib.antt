@@ -1,3 +1,4 @@
 pub mod VoteCounter
 pub mod Answers
 pub mod Calls
+pub mod NumberFirst

@@ -60,11 +60,12 @@ pub data VoteEffect : Type 0 where
   nothing_new : VoteEffect
   fault : FaultKind → VoteEffect
 
--- step 3: number, then era, then signature; the votes are those committed before
+-- step 3, as 02, CR 6 orders it: era, then signature, then number; the votes are those committed before
 unfoldable pub vote_effect : ℕ → List Node → List SignedVoteOf → SignedVoteOf → VoteEffect
 vote_effect era ns vs v =
-    cond (obsolete vs v) nothing_new
-    (cond (eqb v.vote.era era) (cond (valid_vote ns v) stored (fault InvalidCommittedVote)) (fault InvalidCommittedVote))
+    cond (eqb v.vote.era era)
+    (cond (valid_vote ns v) (cond (obsolete vs v) nothing_new stored) (fault InvalidCommittedVote))
+    (fault InvalidCommittedVote)
 
 abbrev pub committed_effect : CounterOf → SignedVoteOf → VoteEffect
 committed_effect c v = vote_effect c.era c.nodes c.committed v

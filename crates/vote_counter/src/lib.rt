@@ -79,7 +79,7 @@ pub fn is_key(map: PubKeyMap, id: u32, sig: u64) -> bool
     network_info::node_key(map, id) == Some(sig)
 }
 
-// A vote of a batch among the committed votes: number, then era, then signature. One exit: so the votes that stay are not copied.
+// A vote of a batch among the committed votes: era, then signature, then number. One exit: so the votes that stay are not copied.
 #[tactic(auto, unfolding(crate::specs::VoteCounter::commit_vote, crate::specs::VoteCounter::vote_effect, crate::specs::VoteCounter::valid_vote))]
 pub fn commit_vote(votes: SignedVotes, era: u64, map: PubKeyMap, x: SignedVote) -> VoteCommitted
     ensures { committed_of result ≡ commit_vote base era (nodes_of map) (votes_of votes) (signed_of x) }
@@ -88,12 +88,14 @@ pub fn commit_vote(votes: SignedVotes, era: u64, map: PubKeyMap, x: SignedVote) 
     let mut next = votes;
     let mut taken = false;
     let mut outcome = VoteOutcome::Faulty(FaultKind::InvalidCommittedVote);
-    if is_obsolete(votes, x) {
-        outcome = VoteOutcome::Nothing;
-    } else if vote.era == era && is_key(map, x.voter, x.sig) {
-        taken = votes.takes(x.voter);
-        next = votes.put(x);
-        outcome = VoteOutcome::Stored;
+    if vote.era == era && is_key(map, x.voter, x.sig) {
+        if is_obsolete(votes, x) {
+            outcome = VoteOutcome::Nothing;
+        } else {
+            taken = votes.takes(x.voter);
+            next = votes.put(x);
+            outcome = VoteOutcome::Stored;
+        }
     }
     VoteCommitted {
         votes: next,
@@ -158,7 +160,7 @@ impl VoteCounter {
         self
     }
 
-    // A vote of a batch: number, then era, then signature.
+    // A vote of a batch: era, then signature, then number.
     #[tactic(auto, unfolding(crate::specs::VoteCounter::add_committed, crate::specs::VoteCounter::commit_vote))]
     pub fn add_committed_vote(mut self, x: SignedVote) -> VoteAdded
         ensures { added_of result ≡ add_committed base (counter_of self) (signed_of x) }
