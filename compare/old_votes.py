@@ -54,7 +54,7 @@ def some_again(s, v):
 
 def proposers(s, k):
     """Proposers in ascending order, of the map and of none."""
-    return sorted(s.r.sample(ids(s) + [0, 55, 57, 2**32 - 1], k))
+    return sorted(s.r.sample(ids(s) + [i for i in (0, 55, 57, 2**32 - 1) if i not in ids(s)], k))
 
 
 def split(s, votes, k=2):

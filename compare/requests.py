@@ -6,6 +6,7 @@ asks for it; whatever is exempt nowhere must be answered in the Rust's own words
 | CR 1 | a batch of another era than the engine's; the Rust's batches have no era, so the oracle hands none of them on | `refused 15`, or 1 to 4, which come before it |
 | CR 2 | a batch with key messages of a leaving node, at the first of which the Rust errs | the Rust's answer to the batch without them, with their faults put in; `refused 7` where it has none |
 | CR 6 | a reported batch with votes of an old number and of a wrong era or signature, at which the Rust looks no further than at the number | the Rust's answer, with their faults put in |
+| CR 7 | a reported batch; the Rust's report does not name the voters who carried the change | the Rust's answer, or what the requests above make of it, and the voters behind it |
 
 CR 3 and CR 5 exempt nothing: the Rust has no `board`, no `plan-new` and no `plan-old`, so the oracle is not asked, and what must be answered is a rule of the generator's own (board.py, plans.py).
 
@@ -25,8 +26,15 @@ none is new; there the vote gets a voter of neither map, of whom nothing is stor
 those votes, each at its place, it must be the answer to the batch as it is (that of CR 2, where a leaving node's messages are in it too). So the Rust has faulted none of
 them itself, and finds each of them wrong, but for those old against the last number: of these it shows the place only, and that era or signature is wrong is this file's rule (`generate` counts them). The log goes on in the state behind the batch as it is; that it is the one behind the marked form, `check_marked` shows, which goes through each log once more with the marked forms taken, and
 holds the state before each reported batch, and the last one, to that of the log.
+
+CR 7, more closely. The field ` voters W` stands behind the Rust's words, of which none is exempt. It is the rule of voters.py, on the Rust's own report and on the votes stored behind the batch: those of
+the Rust's `state` before it, and each vote of the batch that is stored over them (`is_stored`). Where no era began, so at a repeated win and where the report is `None`, the Rust's `state` behind the
+batch tells what is stored, and must tell just that, number and change of each voter; the list is then made from it. Where an era began it must tell no vote; what was stored there is asked of a second Rust
+when the log is made (stored.py).
 """
 import collections
+import board
+import voters
 import wire
 
 # The rows of a batch call, in the order in which they are looked for; of 2 and 3 the one that is met first in the bytes. Row 6 has no condition (02, CR 2).
@@ -38,17 +46,17 @@ LAST_NUMBER = 2**64 - 1
 # What occurred of CR 2, and how often; `generate` prints it.
 SEEN = collections.Counter()
 
-Group = collections.namedtuple("Group", "era map candidate numbers")
+Group = collections.namedtuple("Group", "era map candidate numbers changes")
 
 
 def group_told(state):
-    """Era, map, candidate map (none without key generation) and the number of each stored vote by its voter, from the oracle's answer to `state`; nothing before a start."""
+    """Era, map, candidate map (none without key generation), number and change (its bytes in hex) of each stored vote by its voter, from the oracle's answer to `state`; nothing before a start."""
     if state == "no engine":
         return None
     words = state.split(" ")
     node_map = lambda word: dict(wire.read_map(bytes.fromhex(word)))
     votes = [] if words[5] == "-" else [v.split(":") for v in words[5].split(",")]
-    return Group(int(words[1]), node_map(words[2]), None if words[7] == "-" else node_map(words[7]), {int(voter): int(number) for voter, number, _ in votes})
+    return Group(int(words[1]), node_map(words[2]), None if words[7] == "-" else node_map(words[7]), {int(voter): int(number) for voter, number, _ in votes}, board.votes_told(state))
 
 
 def first_row(rows):
@@ -251,6 +259,11 @@ def numbers_behind(contributions, group):
     return {**group.numbers, **{m.vote[3]: m.vote[2] for m in votes_met(contributions, group) if is_stored(m)}}
 
 
+def changes_behind(contributions, group):
+    """The change (its bytes in hex) of each stored vote by its voter, likewise."""
+    return {**group.changes, **{m.vote[3]: wire.change(m.vote[0]).hex() for m in votes_met(contributions, group) if is_stored(m)}}
+
+
 def has_old_wrong(call, group, number):
     """Whether a batch call has such a vote. One that some row refuses has no faults, whatever it holds."""
     return number is None and any(map(is_old_wrong, votes_met(read_call(call)[0], group)))
@@ -309,15 +322,31 @@ def check_marked(lines, answers, states, ask):
         if told.startswith("batch "):
             state = ask("state")
             check_same(state, next(states), "state")
-            check_same(answer_to_marked(call, group_told(state), ask), told, call)
+            check_same(answer_to_marked(call, group_told(state), ask), voters.cut(told)[0], call)
         else:
             check_same(ask(call), told, call)
     check_same(ask("state"), next(states), "state")
 
 
-# Each exemption: its request, the batch calls that it takes out of the comparison, and what is asked of them. The first that takes a call counts, and is handed those behind it, of which only CR 6
-# makes use: it asks them first.
-EXEMPT = [("CR 6", has_old_wrong, faults_of_old_wrong), ("CR 1", of_another_era, passed_over), ("CR 2", has_leaving, faults_of_leaving)]
+# -- CR 7 --------------------------------------------------------------------------------------------------------------------------
+def is_reported(call, group, number):
+    """Whether a batch was built to be reported. One that some row refuses names no voters."""
+    return number is None
+
+
+def with_voters(call, group, ask, number, others):
+    """CR 7. What is stored behind the batch is held to the Rust's state, as far as that tells it."""
+    answer, contributions = asked_of(call, group, ask, number, others), read_call(call)[0]
+    numbers, changes, now = numbers_behind(contributions, group), changes_behind(contributions, group), group_told(ask("state"))
+    began = now.era != group.era
+    if (now.numbers, now.changes) != (({}, {}) if began else (numbers, changes)):
+        raise SystemExit("stored are %s and %s, and the Rust has %s and %s: %s" % (numbers, changes, now.numbers, now.changes, call[:4000]))
+    return voters.answer(answer, changes if began else now.changes, group.map)
+
+
+# Each exemption: its request, the batch calls that it takes out of the comparison, and what is asked of them. The first that takes a call counts, and is handed those behind it, of which CR 7 and CR 6
+# make use: they ask them first.
+EXEMPT = [("CR 7", is_reported, with_voters), ("CR 6", has_old_wrong, faults_of_old_wrong), ("CR 1", of_another_era, passed_over), ("CR 2", has_leaving, faults_of_leaving)]
 
 
 def asked_of(call, group, ask, number, exempt):

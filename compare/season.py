@@ -2,7 +2,8 @@
 
 Each line of a log comes with what must be answered (requests.py): the oracle's own words, or, for a call that was built to be refused, `refused N`
 with the number of the row that it was built for, or `refused *` for bytes that were damaged at random (some refusal, no number stated). The Rust has no tally
-board and converts no join plan: what must be answered to `board` is worked out from the votes that it tells (board.py), to `plan-new` and `plan-old` from the call (plans.py)."""
+board, converts no join plan and names no voters: what must be answered to `board` is worked out from the votes that it tells (board.py), to `plan-new` and `plan-old` from the call (plans.py), and the voters
+behind a report from it and those votes (voters.py)."""
 import random
 import subprocess
 import board
@@ -24,8 +25,8 @@ CHANGING = ("new", "join", "vote", "add", "remove", "message", "due", "batch")
 
 
 class Oracle:
-    def __init__(self, path):
-        self.p = subprocess.Popen([path, "--share-passes"], stdin=subprocess.PIPE, stdout=subprocess.PIPE,
+    def __init__(self, path, flag="--share-passes"):
+        self.p = subprocess.Popen([path, flag], stdin=subprocess.PIPE, stdout=subprocess.PIPE,
                                   stderr=subprocess.DEVNULL, text=True, bufsize=1)
 
     def ask(self, line):
@@ -175,11 +176,16 @@ class Season:
         self.candidate = None if a[7] == "-" else wire.read_map(bytes.fromhex(a[7]))
         self.parts = {} if a[9] == "-" else {int(q.split(":")[0]): q.split(":") for q in a[9].split(",")}
 
-    def start(self, n=None, era=None, own=None):
+    def some_ids(self, n=None):
         r = self.r
         n = n or r.choice([1, 2, 3, 3, 4] if self.small else [1, 2, 3, 4, 4, 4, 5, 7, 7, 10, 16])
-        ids = sorted(r.sample(range(1, 40), n))
-        self.keys = {i: 1000 + i for i in range(0, 60)}
+        return sorted(r.sample(range(1, 40), n))
+
+    def start(self, n=None, era=None, own=None, ids=None):
+        """Starts with so many nodes of small ids, or with nodes of just these ids, ascending."""
+        r = self.r
+        ids = ids or self.some_ids(n)
+        self.keys = {i: 1000 + i for i in [*range(0, 60), *ids]}
         m = [(i, self.keys[i]) for i in ids]
         self.own = own if own is not None else (r.choice(ids) if r.random() < 0.85 else r.choice([i for i in range(1, 50) if i not in ids]))
         self.own_key = self.keys[self.own] if r.random() < 0.95 else r.randrange(1, 2**64)

@@ -6,7 +6,8 @@ use mathlib.Core.Path.{◌≡◌, refl, sym, ap, ◌∙◌, subst}
 use mathlib.Core.List.{List, []}
 use mathlib.Core.Bool.{Bool, true, false, cond}
 use native.Mathlib.Omega.{arith}
-use Rattle.lists.specs.Lists.{found, nothing}
+use Rattle.lists.specs.Lists.{found}
+use Rattle.lists.proofs.ListLaws.{found_same}
 use Rattle.bincode.specs.Read.{Read, value, refuse, whole}
 use Rattle.bincode.specs.Outcome.{Outcome, done, refused}
 use Rattle.bincode.specs.Numbers.{fixed}
@@ -26,14 +27,6 @@ use Rattle.agreement.specs.Shared.{ref_of, plan_candidate, plan_ref}
 use Rattle.agreement.specs.Calls.{Call, shared_batches, Start, new_start, join_start, joined_state, start_state}
 use Rattle.agreement.specs.Claim.{opened_by, planned_by, ref_start, FollowsFrom, FollowsStart, Agree}
 use Rattle.agreement.proofs.Follow.{follows}
-
-module _ {A : Type 0} where
-  -- what is found, and what is not
-  pub found_same : {a b : A} → found a ≡ found b → a ≡ b
-  found_same e = cc
-
-  pub not_found : {a : A} → nothing ≡ found a → ⊥
-  not_found e = let z : ◌≡◌ {A = ℕ} 0 1 = cc in omega arith
 
 -- an accepted start by `new` opens with the map and parameters that were read, whatever id and key are
 new_opens : (z : Sizes) (id key era : ℕ) (map params : List ℕ) (s : StateOf) → started z id key era map params ≡ done s

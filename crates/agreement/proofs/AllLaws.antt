@@ -8,20 +8,17 @@ use native.Mathlib.Omega.{arith}
 use lib.Dec.{ltb, eqb}
 use lib.ListN.{length, get_or, set, replicate}
 use borrow.Author.Tests.{ltb-true}
-use Rattle.lists.specs.Lists.{Found, found, nothing, lookup, insert, has_key, insert_within, filter}
+use Rattle.lists.specs.Lists.{found, lookup, insert, has_key, insert_within, filter}
+use Rattle.lists.proofs.ListLaws.{not_found}
 use Rattle.bincode.specs.Items.{foldl}
 use Rattle.bincode.specs.Stands.{All}
 use Rattle.signed_votes.proofs.VotesLaws.{AscendsFrom}
-
--- not both something and nothing
-pub none_found : {A : Type 0} {a : A} → ◌≡◌ {A = Found A} nothing (found a) → ⊥
-none_found e = let y : ◌≡◌ {A = ℕ} 0 1 = cc in omega arith
 
 module _ {A : Type 0} (P : A → Type 0) where
   -- what is found by a key is one of the elements
   pub all_lookup : (key : A → ℕ) (xs : List A) (k : ℕ) (a : A) → All P xs → lookup key xs k ≡ found a → P a
   unfolding lookup
-  all_lookup key [] k a ps e = absurd (none_found e)
+  all_lookup key [] k a ps e = absurd (not_found e)
   all_lookup key (x ∷ xs) k a ps e = go (eqb (key x) k) e (all_lookup key xs k a ps.1)
     where
       go : (b : Bool) → cond b (found x) (lookup key xs k) ≡ found a → (lookup key xs k ≡ found a → P a) → P a

@@ -4,19 +4,21 @@ use Prim.Native.Nat.{ℕ, ◌+◌}
 use mathlib.Core.Path.{◌≡◌, sym, ap, ◌∙◌, subst}
 use mathlib.Core.List.{List, [], ◌∷◌}
 use mathlib.Core.Bool.{Bool, true, false, cond}
-use Rattle.lists.specs.Lists.{Found, found, nothing}
+use Rattle.lists.specs.Lists.{Found, found, nothing, map_found}
 use Rattle.bincode.specs.Outcome.{Outcome, done, refused}
+use Rattle.bincode.specs.Stands.{All}
 use Rattle.bincode.specs.Sizes.{Sizes}
 use Rattle.bincode.specs.Items.{foldl}
 use Rattle.bincode.proofs.ReadLaws.{done_refused}
 use Rattle.pub_key_map.specs.declared.Node.{Node}
+use Rattle.network_info.specs.NetworkInfo.{is_member}
 use Rattle.change.specs.Change.{ChangeOf, node_change, encryption_schedule, ChangeStateOf, none, in_progress, complete}
 use Rattle.votes.specs.Votes.{SignedVoteOf}
 use Rattle.signed_votes.specs.SignedVotes.{voter_of}
 use Rattle.signed_votes.proofs.VotesLaws.{AscendsFrom}
 use Rattle.board.specs.Board.{worked_out, standing_at}
 use Rattle.vote_counter.specs.VoteCounter as counter
-use Rattle.vote_counter.specs.VoteCounter.{add_committed, compute_winner, board_row}
+use Rattle.vote_counter.specs.VoteCounter.{add_committed, compute_winner, supporters_of, carried_by, carried, board_row}
 use Rattle.vote_counter.specs.Calls.{InStep}
 use Rattle.vote_counter.proofs.BoardKept.{Kept, new_kept, committed_kept, kept_in_step}
 use Rattle.key_gen_state.specs.KeyGenState.{KeyGenStateOf, ready_state}
@@ -46,6 +48,8 @@ keeps_boarded s t k b =
     record {
       by_board = k.2 ∙ b.by_board ∙ ap worked_out (sym votes);
       ascend = subst (AscendsFrom voter_of 0) (sym votes) b.ascend;
+      members =
+          subst (λ (r : RefState). All (λ (v : SignedVoteOf). is_member r.nodes (voter_of v) ≡ true) r.votes) (sym k.0) b.members;
     }
 
 module _ (z : Sizes) where
@@ -64,7 +68,7 @@ module _ (z : Sizes) where
   votes_boarded p [] w b = b
   votes_boarded p (v ∷ vs) w b = votes_boarded p vs (committed_vote z p w v) (vote_boarded p w v b)
 
-  contribs_boarded : (cs : List ContribOf) (w : WorkOf) → Boarded w.state → Boarded (foldl (committed_contrib z) w cs).state
+  pub contribs_boarded : (cs : List ContribOf) (w : WorkOf) → Boarded w.state → Boarded (foldl (committed_contrib z) w cs).state
   unfolding committed_contrib
   contribs_boarded [] w b = b
   contribs_boarded (c ∷ cs) w b =
@@ -72,25 +76,30 @@ module _ (z : Sizes) where
       (subst Kept (sym (messages_counter z c.id c.messages (foldl (committed_vote z c.id) w c.votes))) (votes_boarded c.id c.votes w b))
 
   -- steps 6 to 8: the same counter, or a new one
-  map_wins_boarded : (era : ℕ) (s : StateOf) (ns : List Node) → Boarded s → Boarded (map_wins z era s ns).state
+  map_wins_boarded : (era : ℕ) (s : StateOf) (voters : List ℕ) (ns : List Node) → Boarded s → Boarded (map_wins z era s voters ns).state
   unfolding map_wins key_gen_for new_era
-  map_wins_boarded era s ns b = go (is_candidate (candidate_nodes s.key_gen) ns)
+  map_wins_boarded era s voters ns b = go (is_candidate (candidate_nodes s.key_gen) ns)
     where
       go : (q : Bool)
           → Boarded
-          (cond {A = Decided} q (decided_as s (in_progress (node_change ns)))
-          (record { state = key_gen_for z ns (new_era era (nodes_in s) s); change = in_progress (node_change ns); due = part_due ns s.counter.our_id era; recipe = nothing })).state
+          (cond {A = Decided} q (decided_as s (record { change = in_progress (node_change ns); voters = voters }))
+          (record {
+            state = key_gen_for z ns (new_era era (nodes_in s) s);
+            ruling = record { change = in_progress (node_change ns); voters = voters };
+            due = part_due ns s.counter.our_id era;
+            recipe = nothing;
+          })).state
       go true = b
       go false = new_kept s.counter.our_id s.counter.our_key (nodes_in s) era
 
   decided_boarded : (era : ℕ) (s : StateOf) → Boarded s → Boarded (decide z era s).state
-  unfolding decide schedule_wins new_era
+  unfolding decide carried schedule_wins new_era
   decided_boarded era s b = go (ready_state s.key_gen) s.key_gen (compute_winner s.counter)
     where
-      go : (q : Bool) (g : Found KeyGenStateOf) (x : Found ChangeOf) → Boarded (cond {A = Decided} q (completed_by era s g) (elected_by z era s x)).state
+      go : (q : Bool) (g : Found KeyGenStateOf) (x : Found ChangeOf) → Boarded (cond {A = Decided} q (completed_by era s g) (elected_by z era s (map_found (carried_by s.counter) x))).state
       go true (found g) x = new_kept s.counter.our_id s.counter.our_key g.key_gen.nodes era
       go true nothing x = b
-      go false g (found (node_change ns)) = map_wins_boarded era s ns b
+      go false g (found (node_change ns)) = map_wins_boarded era s (supporters_of s.counter.committed (node_change ns)) ns b
       go false g (found (encryption_schedule x)) = new_kept s.counter.our_id s.counter.our_key (nodes_in s) era
       go false g nothing = b
 

@@ -9,18 +9,23 @@ use native.Mathlib.Omega.{arith}
 use lib.ListN.{length, take}
 use Rattle.lists.specs.Lists.{found}
 use Rattle.bincode.specs.Outcome.{done}
+use Rattle.bincode.specs.Read.{value}
 use Rattle.bincode.specs.Sizes.{base}
 use Rattle.bincode.specs.Stands.{Bytes, All}
 use Rattle.batch.specs.Batch.{plan_left, plan_answered}
 use Rattle.dynamic_honey_badger.specs.Asked.{last_report}
 use Rattle.dynamic_honey_badger.specs.State.{StateOf, era_of, candidate_nodes, started, Joined, joined}
+use Rattle.change.specs.Change.{none}
+use Rattle.key_gen_state.specs.KeyGenState.{ready_state}
+use Rattle.internal_contrib.specs.InternalContrib.{ContribOf, read_batch}
+use Rattle.steps.specs.Steps.{committed}
 use Rattle.process_output.specs.Process.{BatchCall, ReportOf, denied, processed}
 use Rattle.reference.specs.Reference.{RefState}
 use Rattle.reference.specs.Step.{ref_run, ref_answers, ref_taken}
 use Rattle.reference.proofs.PassedLaws.{taken_taken}
 use Rattle.agreement.specs.Shared.{ref_of}
 use Rattle.agreement.specs.Calls.{Call, batch_call, run, shared_batches, answers, given_batches, reports, last_stamp, Start, new_start, join_start, start_state, joined_state}
-use Rattle.agreement.specs.Claim.{ref_start, FollowsFrom, FollowsStart, Agree, SameOutcome, UpToEra, OneBoard}
+use Rattle.agreement.specs.Claim.{ref_start, FollowsFrom, FollowsStart, Agree, SameOutcome, UpToEra, OneBoard, VotersListed}
 use Rattle.vote_counter.specs.Calls.{InStep}
 use Rattle.agreement.specs.Hypotheses.{Full, began_era, left_older, OfBytes, StartBytes}
 use Rattle.agreement.specs.Formed.{Formed, CallFits, StartFits}
@@ -30,6 +35,7 @@ use Rattle.agreement.proofs.Agree.{start_opens, opened_stands, base_fits}
 use Rattle.agreement.proofs.PassedCalls as passed
 use Rattle.agreement.proofs.LastReports as last
 use Rattle.agreement.proofs.BoardLaws as boards
+use Rattle.agreement.proofs.CarriedLaws as carrying
 use Rattle.agreement.proofs.FullLaws as full
 use Rattle.agreement.proofs.FullLaws.{same_taken_given}
 use Rattle.agreement.proofs.Joiner as joiner
@@ -192,6 +198,19 @@ pub agreeing_one_board : (start start' : Start) (s t : StateOf) → start_state 
 agreeing_one_board start start' s t starts starts' cs ds agree =
     boards.one_board (run base s cs) (run base t ds) (boards.run_boarded base cs s (boards.start_boarded base start s starts))
     (boards.run_boarded base ds t (boards.start_boarded base start' t starts')) agree.0
+
+-- 02, CR 7: from every accepted start on, after every list of calls, in every report of a batch call that lists somebody: more than f and at most n voters of the map before the batch, by
+-- ascending id, just those whose stored vote is for the change that is told, as the votes stand behind the batch's own and before a new era
+pub reports_carried : (start : Start) (s : StateOf) → start_state base start ≡ done s → (calls : List Call) (b : BatchCall) (r : ReportOf) → (processed base (run base s calls) b).answer ≡ done r
+    → (cs : List ContribOf) (c : ℕ) → read_batch base b.bytes ≡ value cs c → (r.batch.voters ≡ [] → ⊥)
+    → VotersListed (run base s calls) (committed base (run base s calls) b.verdicts cs).state r.batch
+reports_carried = carrying.reports_carried base
+
+-- the same wherever a winner was taken: where no key generation was ready and the report is not `None`, somebody is listed
+pub winners_carried : (start : Start) (s : StateOf) → start_state base start ≡ done s → (calls : List Call) (b : BatchCall) (r : ReportOf) → (processed base (run base s calls) b).answer ≡ done r
+    → (cs : List ContribOf) (c : ℕ) → read_batch base b.bytes ≡ value cs c → ready_state (committed base (run base s calls) b.verdicts cs).state.key_gen ≡ false → (r.batch.change ≡ none → ⊥)
+    → VotersListed (run base s calls) (committed base (run base s calls) b.verdicts cs).state r.batch
+winners_carried = carrying.winners_carried base
 
 -- every state that is reached from an accepted start is well formed
 pub reached_states_formed : (start : Start) → StartFits start → (s : StateOf) → start_state base start ≡ done s → (cs : List Call) → All CallFits cs → Formed base (run base s cs)

@@ -7,7 +7,7 @@ use mathlib.Core.List.{List, [], ◌∷◌}
 use mathlib.Core.Bool.{Bool, true, false, cond}
 use native.Mathlib.Omega.{arith}
 use lib.ListN.{length}
-use Rattle.lists.specs.Lists.{Found, found, nothing}
+use Rattle.lists.specs.Lists.{Found, found, nothing, map_found}
 use Rattle.bincode.specs.Read.{value, refuse}
 use Rattle.bincode.specs.Outcome.{Outcome, done, refused}
 use Rattle.bincode.specs.Sizes.{Sizes}
@@ -17,7 +17,8 @@ use Rattle.network_info.specs.NetworkInfo.{is_member}
 use Rattle.change.specs.Change.{ChangeOf, node_change, encryption_schedule, in_progress}
 use Rattle.due.specs.declared.DueKind.TheVariants.{Part}
 use Rattle.due.specs.declared.DueItem.{DueItem}
-use Rattle.vote_counter.specs.VoteCounter.{compute_winner}
+use Rattle.batch.specs.Batch.{RulingOf}
+use Rattle.vote_counter.specs.VoteCounter.{compute_winner, supporters_of, carried_by, carried}
 use Rattle.key_gen_state.specs.KeyGenState.{KeyGenStateOf, ready_state}
 use Rattle.internal_contrib.specs.InternalContrib.{ContribOf, read_batch}
 use Rattle.dynamic_honey_badger.specs.State.{StateOf, era_of, nodes_in, new_era, key_gen_for, candidate_nodes}
@@ -50,19 +51,19 @@ module _ (z : Sizes) (bytes : List ℕ) where
 
 -- a decision adds one due item at most
 pub decide_due : (z : Sizes) (era : ℕ) (s : StateOf) → length (decide z era s).due ≤ 1
-unfolding decide map_wins schedule_wins
+unfolding decide carried map_wins schedule_wins
 decide_due z era s = go (ready_state s.key_gen) s.key_gen (compute_winner s.counter)
   where
-    part : (ns : List Node) (a b : Bool)
-        → length (cond {A = Decided} a (decided_as s (in_progress (node_change ns))) (record { state = key_gen_for z ns (new_era era (nodes_in s) s); change = in_progress (node_change ns); due = cond b (record { kind = Part; era = era } ∷ []) []; recipe = nothing })).due ≤ 1
-    part ns true b = omega arith
-    part ns false true = omega arith
-    part ns false false = omega arith
+    part : (r : RulingOf) (ns : List Node) (a b : Bool)
+        → length (cond {A = Decided} a (decided_as s r) (record { state = key_gen_for z ns (new_era era (nodes_in s) s); ruling = r; due = cond b (record { kind = Part; era = era } ∷ []) []; recipe = nothing })).due ≤ 1
+    part r ns true b = omega arith
+    part r ns false true = omega arith
+    part r ns false false = omega arith
 
-    go : (b : Bool) (g : Found KeyGenStateOf) (x : Found ChangeOf) → length (cond {A = Decided} b (completed_by era s g) (elected_by z era s x)).due ≤ 1
+    go : (b : Bool) (g : Found KeyGenStateOf) (x : Found ChangeOf) → length (cond {A = Decided} b (completed_by era s g) (elected_by z era s (map_found (carried_by s.counter) x))).due ≤ 1
     go true (found g) x = omega arith
     go true nothing x = omega arith
-    go false g (found (node_change ns)) = part ns (is_candidate (candidate_nodes s.key_gen) ns) (is_member ns s.counter.our_id)
+    go false g (found (node_change ns)) = part (record { change = in_progress (node_change ns); voters = supporters_of s.counter.committed (node_change ns) }) ns (is_candidate (candidate_nodes s.key_gen) ns) (is_member ns s.counter.our_id)
     go false g (found (encryption_schedule x)) = omega arith
     go false g nothing = omega arith
 

@@ -11,7 +11,8 @@ use Rattle.bincode.specs.Sizes.{Sizes}
 use Rattle.util.specs.MaxFaulty.{max_faulty}
 use Rattle.pub_key_map.specs.declared.Node.{Node}
 use Rattle.change.specs.Change.{ChangeOf, node_change, encryption_schedule, in_progress}
-use Rattle.vote_counter.specs.VoteCounter.{compute_winner}
+use Rattle.votes.specs.Votes.{SignedVoteOf}
+use Rattle.vote_counter.specs.VoteCounter.{compute_winner, supporters_of, carried_by, carried}
 use Rattle.key_gen.specs.KeyGen.{KeyGenOf, threshold, complete, count_complete, enough, ready}
 use Rattle.key_gen_state.specs.KeyGenState.{KeyGenStateOf, ready_state}
 use Rattle.internal_contrib.specs.InternalContrib.{ContribOf}
@@ -22,7 +23,8 @@ use Rattle.decision.specs.Decision.{Decided, decided_as, completed_by, is_candid
 use Rattle.process_output.specs.Refusals.{batch_row7}
 use Rattle.reference.specs.Reference.{RefState}
 use Rattle.reference.specs.Step.{RefWork, ref_complete, is_ready, ref_ready, RefDecided, decided_ref, new_era_ref, ref_completed, is_candidate_ref, ref_elected, ref_winner, ref_decide, ref_row5, wins_empty, ref_row7}
-use Rattle.reference.proofs.WinnerLaws.{winner_is}
+use Rattle.reference.specs.Winner.{ids_for}
+use Rattle.reference.proofs.WinnerLaws.{winner_is, ids_are}
 use Rattle.agreement.specs.Shared.{part_ref, candidate_ref, ref_of}
 use Rattle.agreement.proofs.StepLaws.{item_count, contribs_shared}
 
@@ -47,30 +49,43 @@ candidate_is : (g : Found KeyGenStateOf) (ns : List Node) → is_candidate_ref (
 candidate_is (found g) ns = refl
 candidate_is nothing ns = refl
 
--- a decision, less what is the node's own
+-- both list the same voters of a change
+voters_shared : (vs : List SignedVoteOf) (x : ChangeOf) → ids_for x vs ≡ supporters_of vs x
+unfolding supporters_of
+voters_shared vs x = ids_are x vs
+
+-- a decision, less what is the node's own: what the report tells of it is shared
 abbrev pub ref_decided : Decided → RefDecided
-ref_decided d = decided_ref (ref_of d.state) d.change
+ref_decided d = record { state = ref_of d.state; ruling = d.ruling }
 
 -- steps 6 to 8
 pub decide_shared : (z : Sizes) (era : ℕ) (s : StateOf) → ref_decided (decide z era s) ≡ ref_decide era (ref_of s)
-unfolding decide ref_decide map_wins schedule_wins new_era key_gen_for
+unfolding decide carried ref_decide map_wins schedule_wins new_era key_gen_for
 decide_shared z era s = rw (ready_is s.key_gen, winner_shared s) (go (ready_state s.key_gen) s.key_gen (compute_winner s.counter))
   where
-    wins : (ns : List Node) (b : Bool)
+    vs : List SignedVoteOf
+    vs = s.counter.committed
+
+    wins : (ns : List Node) (ids : List ℕ) (b : Bool)
         → ref_decided
-        (cond b (decided_as s (in_progress (node_change ns)))
-        (record { state = key_gen_for z ns (new_era era (nodes_in s) s); change = in_progress (node_change ns); due = part_due ns s.counter.our_id era; recipe = nothing }))
-        ≡ cond b (decided_ref (ref_of s) (in_progress (node_change ns)))
-        (decided_ref (new_era_ref era (nodes_in s) s.params (found (record { nodes = ns; parts = [] }))) (in_progress (node_change ns)))
-    wins ns true = refl
-    wins ns false = refl
+        (cond b (decided_as s (record { change = in_progress (node_change ns); voters = ids }))
+        (record {
+          state = key_gen_for z ns (new_era era (nodes_in s) s);
+          ruling = record { change = in_progress (node_change ns); voters = ids };
+          due = part_due ns s.counter.our_id era;
+          recipe = nothing;
+        }))
+        ≡ cond b (decided_ref (ref_of s) (in_progress (node_change ns)) ids)
+        (decided_ref (new_era_ref era (nodes_in s) s.params (found (record { nodes = ns; parts = [] }))) (in_progress (node_change ns)) ids)
+    wins ns ids true = refl
+    wins ns ids false = refl
 
     go : (b : Bool) (g : Found KeyGenStateOf) (x : Found ChangeOf)
-        → ref_decided (cond b (completed_by era s g) (elected_by z era s x)) ≡ cond b (ref_completed era (ref_of s) (map_found candidate_ref g)) (ref_elected era (ref_of s) x)
+        → ref_decided (cond b (completed_by era s g) (elected_by z era s (map_found (carried_by s.counter) x))) ≡ cond b (ref_completed era (ref_of s) (map_found candidate_ref g)) (ref_elected era (ref_of s) x)
     go true (found g) x = refl
     go true nothing x = refl
-    go false g (found (node_change ns)) = rw (candidate_is s.key_gen ns) (wins ns (is_candidate (candidate_nodes s.key_gen) ns))
-    go false g (found (encryption_schedule x)) = refl
+    go false g (found (node_change ns)) = rw (candidate_is s.key_gen ns, voters_shared vs (node_change ns)) (wins ns (supporters_of vs (node_change ns)) (is_candidate (candidate_nodes s.key_gen) ns))
+    go false g (found (encryption_schedule x)) = rw (voters_shared vs (encryption_schedule x))
     go false g nothing = refl
 
 -- row 5

@@ -8,7 +8,7 @@ use native.Mathlib.Omega.{arith}
 use lib.Dec.{eqb}
 use lib.ListN.{length}
 use borrow.Author.Tests.{ltb-false}
-use Rattle.lists.specs.Lists.{Found, found, nothing, takes_place}
+use Rattle.lists.specs.Lists.{Found, found, nothing, map_found, takes_place}
 use Rattle.lists.proofs.SortedLaws.{within_left}
 use Rattle.lists.proofs.ListLaws.{false_true}
 use Rattle.bincode.specs.Sizes.{Sizes}
@@ -27,7 +27,7 @@ use Rattle.winner.specs.Winner.{winner}
 use Rattle.vote_counter.specs.VoteCounter as counter
 use Rattle.signed_votes.specs.SignedVotes.{voter_of}
 use Rattle.vote_counter.proofs.BoardKept.{board_kept}
-use Rattle.vote_counter.specs.VoteCounter.{obsolete, is_key, valid_vote, vote_effect, after_committed, add_committed, compute_winner}
+use Rattle.vote_counter.specs.VoteCounter.{obsolete, is_key, valid_vote, vote_effect, after_committed, add_committed, compute_winner, supporters_of, carried_by, carried}
 use Rattle.key_gen_state.specs.KeyGenState.{KeyGenStateOf, ready_state}
 use Rattle.key_gen_message.specs.KeyGenMessage.{SignedKeyGenMsgOf, SignedOk}
 use Rattle.message_store.specs.MessageStore.{is_other, without}
@@ -43,11 +43,12 @@ use Rattle.decision.specs.Decision.{Decided, decided_as, completed_by, is_candid
 use Rattle.process_output.specs.Refusals.{batch_row7}
 use Rattle.process_output.specs.Process.{BatchCall, finished, processed}
 use Rattle.process_output.proofs.CallLaws.{IsTaken, batch_cases}
+use Rattle.vote_counter.proofs.MemberLaws.{signer_member}
 use Rattle.agreement.specs.Formed.{MapFormed, RunningFormed, Formed}
 use Rattle.agreement.proofs.Sound.{FoundOk, winner_ok, all_map}
 use Rattle.lists.proofs.FilterLaws.{filter_length}
 use Rattle.agreement.proofs.AllLaws.{all_filter, all_then, fold_keeps}
-use Rattle.agreement.proofs.FormedParts.{signer_member, vote_more}
+use Rattle.agreement.proofs.FormedParts.{vote_more}
 use Rattle.agreement.proofs.FormedKeyGen.{fresh_formed, handled_formed}
 use Rattle.agreement.proofs.FormedChanges.{with_committed_lem, with_key_gen_lem, with_params_lem, with_store_lem, with_last_lem, new_era_formed}
 
@@ -146,34 +147,39 @@ module _ (z : Sizes) (era : ℕ) (fits : era < 256 ^ 8) (s : StateOf) (later : e
       (all_then (SignedVoteOk z) (λ (v : SignedVoteOf). ChangeOk z v.vote.change) (λ v o. o.vote_ok.change_ok) s.counter.committed f.committed_formed.votes_ok))
 
   -- another map wins
-  map_wins_formed : (ns : List Node) → MapFormed z ns → Formed z (map_wins z era s ns).state
+  map_wins_formed : (voters : List ℕ) (ns : List Node) → MapFormed z ns → Formed z (map_wins z era s voters ns).state
   unfolding map_wins key_gen_for
-  map_wins_formed ns m = go (is_candidate (candidate_nodes s.key_gen) ns)
+  map_wins_formed voters ns m = go (is_candidate (candidate_nodes s.key_gen) ns)
     where
       go : (b : Bool)
           → Formed z
-          (cond {A = Decided} b (decided_as s (in_progress (node_change ns)))
-          (record { state = key_gen_for z ns (new_era era (nodes_in s) s); change = in_progress (node_change ns); due = part_due ns s.counter.our_id era; recipe = nothing })).state
+          (cond {A = Decided} b (decided_as s (record { change = in_progress (node_change ns); voters = voters }))
+          (record {
+            state = key_gen_for z ns (new_era era (nodes_in s) s);
+            ruling = record { change = in_progress (node_change ns); voters = voters };
+            due = part_due ns s.counter.our_id era;
+            recipe = nothing;
+          })).state
       go true = f
       go false = with_key_gen_lem z (new_era era (nodes_in s) s) (new_era_formed z s f era (nodes_in s) fits later f.nodes_formed) (found (fresh_key_gen z (new_era era (nodes_in s) s).counter.our_id ns)) (fresh_formed z (new_era era (nodes_in s) s).counter.our_id ns m)
 
   -- a schedule wins
-  schedule_wins_formed : (x : EncryptionSchedule) → ChangeOk z (encryption_schedule x) → Formed z (schedule_wins era s x).state
+  schedule_wins_formed : (voters : List ℕ) (x : EncryptionSchedule) → ChangeOk z (encryption_schedule x) → Formed z (schedule_wins era s voters x).state
   unfolding schedule_wins
-  schedule_wins_formed x o =
+  schedule_wins_formed voters x o =
       let p : ParamsOk (with_schedule s.params x) = record { epochs_fit = f.params_ok.epochs_fit; schedule_ok = o } in
       new_era_formed z (with_params s (with_schedule s.params x)) (with_params_lem z s f (with_schedule s.params x) p) era (nodes_in s) fits later f.nodes_formed
 
   decided_formed : empty_wins s ≡ false → Formed z (decide z era s).state
-  unfolding decide empty_wins
+  unfolding decide carried empty_wins
   decided_formed = go (ready_state s.key_gen) s.key_gen f.key_gen_formed (compute_winner s.counter) winner_formed
     where
       go : (b : Bool) (g : Found KeyGenStateOf) → RunningFormed z s.counter.our_id g → (x : Found ChangeOf) → FoundOk (ChangeOk z) x → cond b false (is_empty_map x) ≡ false
-          → Formed z (cond {A = Decided} b (completed_by era s g) (elected_by z era s x)).state
+          → Formed z (cond {A = Decided} b (completed_by era s g) (elected_by z era s (map_found (carried_by s.counter) x))).state
       go true (found g) k x o e = new_era_formed z (with_key_gen s nothing) (with_key_gen_lem z s f nothing tt) era g.key_gen.nodes fits later k.nodes_formed
       go true nothing k x o e = f
-      go false g k (found (node_change ns)) o e = map_wins_formed ns (map_formed z ns o e)
-      go false g k (found (encryption_schedule x)) o e = schedule_wins_formed x o
+      go false g k (found (node_change ns)) o e = map_wins_formed (supporters_of s.counter.committed (node_change ns)) ns (map_formed z ns o e)
+      go false g k (found (encryption_schedule x)) o e = schedule_wins_formed (supporters_of s.counter.committed (encryption_schedule x)) x o
       go false g k nothing o e = f
 
 -- a batch call

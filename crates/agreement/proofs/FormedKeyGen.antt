@@ -15,7 +15,7 @@ use Rattle.bincode.specs.Stands.{All}
 use Rattle.pub_key_map.specs.declared.Node.{Node}
 use Rattle.network_info.specs.NetworkInfo.{node_index}
 use Rattle.network_info.proofs.IndexLaws.{index_found}
-use Rattle.signed_votes.proofs.VotesLaws.{AscendsFrom, insert_ascends}
+use Rattle.signed_votes.proofs.VotesLaws.{AscendsFrom, insert_ascends, all_insert}
 use Rattle.sync_key_gen.specs.SyncKeyGen.{PartOf, AckOf, PartOk}
 use Rattle.key_gen.specs.KeyGen as key_gen
 use Rattle.key_gen.specs.KeyGen.{ProposalOf, KeyGenOf, Handled, handled, with_parts, observes, by_proposer, record_part, part_of_index, part_by, handle_part, acked, record_ack, is_here, ack_of_index, ack_by, handle_ack}
@@ -28,7 +28,6 @@ use Rattle.key_gen_message.specs.KeyGenMessage.{KeyGenMessageOf, part, ack, Mess
 use Rattle.dynamic_honey_badger.specs.State.{fresh_key_gen}
 use Rattle.steps.specs.Steps.{handled_by}
 use Rattle.agreement.specs.Formed.{MapFormed, PartFormed, KeyGenFormed}
-use Rattle.agreement.proofs.KeptLaws.{all_insert}
 use Rattle.agreement.proofs.AllLaws.{all_lookup, all_then, all_set, all_replicate, all_get_d}
 
 -- a part without acknowledgements

@@ -34,9 +34,10 @@ use Rattle.node_change.specs.NodeChange.{row13, with_node, without_node}
 use Rattle.dynamic_honey_badger.specs.State.{StateOf, era_of, nodes_in, with_key_gen, with_store, is_validator, valid_signature}
 use Rattle.dynamic_honey_badger.specs.OwnVotes.{VotedOf, voted_as, signed_in, vote_for, vote_for_read, vote_for_bytes, vote_to_add, vote_to_remove}
 use Rattle.dynamic_honey_badger.specs.Received.{HandledOf, handled_as, quiet, fault, voted_in, stored_in, key_gen_in, received_key_gen, message_era, signed_by, received_now, received_content, received_read, received, read_due_item, returned_key_gen, returned_read, returned}
+use Rattle.vote_counter.proofs.MemberLaws.{signer_member}
 use Rattle.agreement.specs.Formed.{KeyGenFormed, RunningFormed, Formed}
 use Rattle.agreement.proofs.AllLaws.{all_lookup, all_more}
-use Rattle.agreement.proofs.FormedParts.{with_node_ok, without_node_ok, signer_member, vote_more}
+use Rattle.agreement.proofs.FormedParts.{with_node_ok, without_node_ok, vote_more}
 use Rattle.agreement.proofs.FormedKeyGen.{counted_formed}
 use Rattle.agreement.proofs.FormedChanges.{with_pending_lem, with_key_gen_lem, with_store_lem}
 

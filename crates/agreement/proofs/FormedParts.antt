@@ -1,26 +1,22 @@
 -- Each step keeps the parts of a state formed: maps, votes.
 -- Assumes nothing.
 use Prim.Native.Nat.{ℕ, ◌+◌, ◌^◌, ◌<◌}
-use mathlib.Core.Path.{◌≡◌, refl, sym, ap, ◌∙◌}
+use mathlib.Core.Path.{◌≡◌}
 use mathlib.Core.List.{List, [], ◌∷◌}
 use mathlib.Core.Bool.{true}
 use native.Mathlib.Omega.{arith}
-use Rattle.lists.specs.Lists.{Found, found, nothing, insert_within, filter}
-use Rattle.lists.proofs.ListLaws.{false_true}
+use Rattle.lists.specs.Lists.{insert_within, filter}
 use Rattle.bincode.specs.Sizes.{Sizes}
 use Rattle.bincode.specs.Stands.{Each, All}
 use Rattle.pub_key_map.specs.declared.Node.{Node}
 use Rattle.pub_key_map.specs.PubKeyMap.{following, NodeOk, MapOk}
-use Rattle.network_info.specs.NetworkInfo.{node_index, key_of, is_member}
-use Rattle.network_info.proofs.IndexLaws.{index_found, index_nothing}
+use Rattle.network_info.specs.NetworkInfo.{is_member}
 use Rattle.votes.specs.Votes.{SignedVoteOf, SignedVoteOk}
 use Rattle.signed_votes.specs.SignedVotes.{voter_of}
-use Rattle.signed_votes.proofs.VotesLaws.{AscendsFrom, within_ascends}
-use Rattle.vote_counter.specs.VoteCounter.{is_key}
+use Rattle.signed_votes.proofs.VotesLaws.{AscendsFrom, within_ascends, all_within}
 use Rattle.pub_key_map.specs.PubKeyMap.{id_of}
 use Rattle.node_change.specs.NodeChange.{is_not, with_node, without_node}
 use Rattle.agreement.specs.Formed.{VotesFormed}
-use Rattle.agreement.proofs.KeptLaws.{all_within}
 use Rattle.lists.proofs.FilterLaws.{filter_length}
 use Rattle.agreement.proofs.AllLaws.{all_filter, within_length, ascends_filter}
 
@@ -62,14 +58,6 @@ module _ (z : Sizes) where
         few = omega (arith, filter_length (is_not id) ns);
         each = map_join 0 (filter (is_not id) ns) (ascends_filter id_of (is_not id) 0 ns s.0) (all_filter NodeFits (is_not id) ns s.1);
       }
-
--- a signature under a node's key is of a member
-pub signer_member : (ns : List Node) (id sig : ℕ) → is_key sig (key_of ns id) ≡ true → is_member ns id ≡ true
-signer_member ns id sig e = go (node_index ns id) refl
-  where
-    go : (i : Found ℕ) → node_index ns id ≡ i → is_member ns id ≡ true
-    go (found i) f = (index_found ns 0 i id f).2
-    go nothing f = absurd (false_true (ap (is_key sig) (sym (index_nothing ns 0 id f).1) ∙ e))
 
 module _ (z : Sizes) (ns : List Node) where
   -- no votes

@@ -22,7 +22,7 @@ use Rattle.batch.specs.Batch.{BatchOf, plan_of_batch}
 use Rattle.dynamic_honey_badger.specs.State.{StateOf, era_of, candidate_nodes}
 use Rattle.process_output.specs.Process.{BatchCall, ReportOf, processed}
 use Rattle.reference.specs.Reference.{CandidateRef, RefState}
-use Rattle.reference.specs.Step.{RefDecided, decided_ref, new_era_ref, SharedBatch, ref_ready, ref_completed, scheduled, is_candidate_ref, ref_elected, ref_winner, ref_decide, unless_passed, ref_run}
+use Rattle.reference.specs.Step.{RefDecided, decided_ref, new_era_ref, SharedBatch, ref_ready, ref_completed, scheduled, is_candidate_ref, ref_voters, ref_elected, ref_winner, ref_decide, unless_passed, ref_run}
 use Rattle.agreement.specs.Shared.{ref_of, shared_faults, shared_answer, is_passed, plan_ref}
 use Rattle.agreement.specs.Calls.{Call, batch_call, vote_call, add_call, remove_call, message_call, due_call, after, run, as_shared, shared_batches, batch_calls, Start, join_start, start_state}
 use Rattle.agreement.specs.Claim.{planned_by, ref_start, FollowsFrom}
@@ -54,7 +54,7 @@ module _ (s t : RefState) (inner set : ℕ) where
 
       kept : (x : EncryptionSchedule) (g : Found CandidateRef) → left_older (map_found map_of g) (map_found map_of g) ≡ false
           → new_era_ref (s.era + inner + 1) t.nodes (scheduled t.params x) g
-          ≡ plan_ref (plan_of_batch (report_on s (s.era + inner) (decided_ref (new_era_ref (s.era + inner + 1) t.nodes (scheduled t.params x) g) (complete (encryption_schedule x)))) set)
+          ≡ plan_ref (plan_of_batch (report_on s (s.era + inner) (decided_ref (new_era_ref (s.era + inner + 1) t.nodes (scheduled t.params x) g) (complete (encryption_schedule x)) (ref_voters t (encryption_schedule x)))) set)
       kept x (found g) l = absurd (false_true (sym l ∙ map_refl g.nodes))
       kept x nothing l = refl
 

@@ -6,9 +6,9 @@ use mathlib.Core.List.{List, [], ◌∷◌}
 use mathlib.Core.Bool.{Bool, true, false, cond, ◌&&◌}
 use mathlib.Core.Logic.{inl, inr, ⊎_elim}
 use native.Mathlib.Omega.{arith}
-use lib.Dec.{ltb, eqb}
+use lib.Dec.{eqb}
 use lib.ListN.{length}
-use Rattle.lists.specs.Lists.{Found, found, nothing, map_found, lookup, insert, has_key, insert_within}
+use Rattle.lists.specs.Lists.{Found, found, nothing, map_found, lookup, insert, insert_within}
 use Rattle.bincode.specs.Sizes.{Sizes}
 use Rattle.bincode.specs.Items.{foldl}
 use Rattle.bincode.specs.Stands.{All}
@@ -21,35 +21,16 @@ use Rattle.votes.specs.Votes.{SignedVoteOf}
 use Rattle.sync_key_gen.specs.SyncKeyGen.{PartOf}
 use Rattle.key_gen_message.specs.KeyGenMessage.{KeyGenMessageOf, part, ack, SignedKeyGenMsgOf}
 use Rattle.internal_contrib.specs.InternalContrib.{ContribOf}
+use Rattle.signed_votes.proofs.VotesLaws.{all_within}
 use Rattle.reference.specs.Reference.{PartRef, CandidateRef, RefState}
 use Rattle.reference.specs.Terms.{Leaving}
 use Rattle.reference.specs.Step.{RefWork, blamed, is_key_of, by_voter, is_old, votes_now, ref_vote, by_index, candidate_now, ref_part_found, is_in, ref_ack_found, ref_tracked, ref_handled, is_signed, ref_message, ref_contrib, ref_contribs}
 
--- what holds of each element holds of each after one is put in
+-- what holds of every value holds of each element
 module _ {A : Type 0} (P : A → Type 0) where
   pub all_any : ((a : A) → P a) → (xs : List A) → All P xs
   all_any p [] = tt
   all_any p (x ∷ xs) = (p x, all_any p xs)
-
-  module _ (key : A → ℕ) (a : A) (p : P a) where
-    pub all_insert : (xs : List A) → All P xs → All P (insert key a xs)
-    unfolding insert
-    all_insert [] ps = (p, tt)
-    all_insert (x ∷ xs) ps = go (ltb (key x) (key a)) (eqb (key x) (key a)) (all_insert xs ps.1)
-      where
-        go : (b c : Bool) → All P (insert key a xs) → All P (cond b (x ∷ insert key a xs) (cond c (a ∷ xs) (a ∷ x ∷ xs)))
-        go true c qs = (ps.0, qs)
-        go false true qs = (p, ps.1)
-        go false false qs = (p, ps)
-
-    pub all_within : (limit : ℕ) (xs : List A) → All P xs → All P (insert_within key limit a xs)
-    unfolding insert_within
-    all_within limit xs ps = go (has_key key (key a) xs) (ltb (length xs) limit)
-      where
-        go : (b c : Bool) → All P (cond b (insert key a xs) (cond c (insert key a xs) xs))
-        go true c = all_insert xs ps
-        go false true = all_insert xs ps
-        go false false = ps
 
 -- the candidate map
 abbrev pub map_of : CandidateRef → List Node

@@ -32,6 +32,7 @@ pub mod WitnessCalls
 pub mod WitnessJoiner
 pub mod WitnessClaims
 pub mod BoardLaws
+pub mod CarriedLaws
 pub mod StruckLaws
 pub mod StruckBatch
 pub mod NumberFirstLaws

@@ -9,7 +9,7 @@ use mathlib.Core.Bool.{Bool, true, false, cond}
 use native.Mathlib.Omega.{arith}
 use borrow.Author.Tests.{eqb-true, eqb-false}
 use Rattle.lists.specs.Lists.{Found, found, nothing, map_found}
-use Rattle.lists.proofs.ListLaws.{false_true}
+use Rattle.lists.proofs.ListLaws.{false_true, found_same, not_found}
 use Rattle.bincode.specs.Outcome.{done}
 use Rattle.bincode.specs.Sizes.{Sizes}
 use Rattle.pub_key_map.specs.declared.Node.{Node}
@@ -23,19 +23,18 @@ use Rattle.batch.specs.Batch.{BatchOf}
 use Rattle.dynamic_honey_badger.specs.State.{StateOf, era_of, candidate_nodes}
 use Rattle.process_output.specs.Process.{BatchCall, ReportOf, processed}
 use Rattle.reference.specs.Reference.{CandidateRef, RefState}
-use Rattle.reference.specs.Step.{RefDecided, decided_ref, new_era_ref, ref_ready, ref_completed, is_candidate_ref, ref_elected, ref_winner, ref_decide, ref_step}
+use Rattle.reference.specs.Step.{RefDecided, decided_ref, new_era_ref, ref_ready, ref_completed, is_candidate_ref, ref_voters, ref_elected, ref_winner, ref_decide, ref_step}
 use Rattle.agreement.specs.Shared.{part_ref, candidate_ref, ref_of}
 use Rattle.agreement.specs.Calls.{as_shared}
 use Rattle.agreement.specs.Hypotheses.{began_era, left_older}
 use Rattle.agreement.proofs.KeptLaws.{map_of}
-use Rattle.agreement.proofs.Agree.{found_same, not_found}
 use Rattle.agreement.proofs.Reported.{candidate_map, Reported, batch_reported, left_shared, maps_before, maps_after}
 
 -- what is decided where a map wins: the candidate map again, or another
 abbrev pub won_by : ℕ → RefState → List Node → Bool → RefDecided
 won_by era t ns again =
-    cond again (decided_ref t (in_progress (node_change ns)))
-    (decided_ref (new_era_ref era t.nodes t.params (found (record { nodes = ns; parts = [] }))) (in_progress (node_change ns)))
+    cond again (decided_ref t (in_progress (node_change ns)) (ref_voters t (node_change ns)))
+    (decided_ref (new_era_ref era t.nodes t.params (found (record { nodes = ns; parts = [] }))) (in_progress (node_change ns)) (ref_voters t (node_change ns)))
 
 -- a decision leaves the era or begins the new one
 module _ (era : ℕ) (t : RefState) where
@@ -69,7 +68,7 @@ still_runs (complete (encryption_schedule x)) (found ms) = true
 module _ (era : ℕ) (t : RefState) where
   -- what is claimed of a decision, where m is the candidate map before it
   abbrev Left : Found (List Node) → RefDecided → Type 0
-  Left m d = left_older m (candidate_map d.state) ≡ still_runs d.change m
+  Left m d = left_older m (candidate_map d.state) ≡ still_runs d.ruling.change m
 
   decided_left : Left (candidate_map t) (ref_decide era t)
   unfolding ref_decide left_older

@@ -10,7 +10,7 @@ use Rattle.bincode.specs.Sizes.{Sizes}
 use Rattle.bincode.proofs.ReadLaws.{done_refused}
 use Rattle.pub_key_map.specs.declared.Node.{Node}
 use Rattle.key_gen_state.specs.KeyGenState.{KeyGenStateOf}
-use Rattle.batch.specs.Batch.{BatchOf}
+use Rattle.batch.specs.Batch.{BatchOf, batch_with}
 use Rattle.internal_contrib.specs.InternalContrib.{ContribOf, read_batch}
 use Rattle.dynamic_honey_badger.specs.State.{StateOf, era_of, candidate_nodes}
 use Rattle.process_output.specs.Process.{BatchCall, ReportOf, processed}
@@ -29,7 +29,7 @@ candidate_map s = map_found map_of s.candidate
 
 -- the report on a decision
 abbrev pub report_on : RefState → ℕ → RefDecided → BatchOf
-report_on s epoch d = record { epoch = epoch; era = s.era; change = d.change; keys = d.state.nodes; params = d.state.params }
+report_on s epoch d = batch_with epoch s.era d.ruling d.state.nodes d.state.params
 
 -- what a reported batch was: t is the state that steps 2 to 5 leave, in the era and with the maps from before
 pub record Reported (s : RefState) (inner : ℕ) (a : RefAnswer) (batch : BatchOf) : Type 0 where

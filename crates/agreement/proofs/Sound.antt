@@ -10,6 +10,7 @@ use lib.Dec.{ltb}
 use lib.ListN.{length}
 use borrow.Author.Tests.{ltb-false}
 use Rattle.lists.specs.Lists.{Found, found, nothing, map_found}
+use Rattle.lists.proofs.ListLaws.{found_same, not_found}
 use Rattle.bincode.specs.Read.{Read, value, refuse, whole}
 use Rattle.bincode.specs.Numbers.{fixed}
 use Rattle.bincode.specs.Outcome.{done}
@@ -29,13 +30,13 @@ use Rattle.winner.specs.Winner.{support, winner_after, winner}
 use Rattle.util.specs.MaxFaulty.{max_faulty}
 use Rattle.join_plan.specs.JoinPlan.{PlanOf, read_plan, PlanOk}
 use Rattle.join_plan.proofs.PlanCodes.{plan_one_encoding}
-use Rattle.batch.specs.Batch.{plan_of_batch}
+use Rattle.batch.specs.Batch.{batch_with, plan_of_batch}
 use Rattle.internal_contrib.specs.declared.Budget.{Budget}
 use Rattle.internal_contrib.specs.InternalContrib.{ContribOf, read_batch, spending, opening, ContribOk}
 use Rattle.internal_contrib.proofs.ContribCodes.{batch_one_encoding}
 use Rattle.reference.specs.Reference.{CandidateRef, RefState}
 use Rattle.reference.specs.Winner.{choice_of}
-use Rattle.reference.specs.Step.{RefDecided, decided_ref, new_era_ref, RefReport, RefAnswer, SharedBatch, ref_contribs, ref_ready, ref_completed, is_candidate_ref, ref_elected, ref_winner, ref_decide, ref_row5, denied_ref, ref_steps, ref_batch, ref_read, passes_over, ref_step, ref_after, ref_run}
+use Rattle.reference.specs.Step.{RefDecided, decided_ref, new_era_ref, RefReport, RefAnswer, SharedBatch, ref_contribs, ref_ready, ref_completed, is_candidate_ref, ref_voters, ref_elected, ref_winner, ref_decide, ref_row5, denied_ref, ref_steps, ref_batch, ref_read, passes_over, ref_step, ref_after, ref_run}
 use Rattle.reference.proofs.WinnerLaws.{winner_is}
 use Rattle.reference.proofs.ReportLaws.{tests}
 use Rattle.agreement.specs.Shared.{plan_candidate, plan_ref}
@@ -43,7 +44,6 @@ use Rattle.agreement.specs.Calls.{Start, new_start, join_start}
 use Rattle.agreement.specs.Claim.{opened_by, planned_by, ref_start}
 use Rattle.agreement.specs.Hypotheses.{StartBytes}
 use Rattle.agreement.proofs.KeptLaws.{map_of, Kept, contribs_keep}
-use Rattle.agreement.proofs.Agree.{found_same, not_found}
 
 -- what is found is such as P holds of
 module _ {A : Type 0} (P : A → Type 0) where
@@ -89,7 +89,7 @@ module _ (z : Sizes) where
 
   -- steps 6 to 8
   abbrev DecidedOk : RefDecided → Type 0
-  DecidedOk d = RefOk d.state × StateOk z d.change
+  DecidedOk d = RefOk d.state × StateOk z d.ruling.change
 
   decide_ok : (era : ℕ) (s : RefState) → RefOk s → DecidedOk (ref_decide era s)
   unfolding ref_decide winner
@@ -102,8 +102,8 @@ module _ (z : Sizes) where
 
       wins : (ns : List Node) → MapOk z ns → (b : Bool)
           → DecidedOk
-          (cond b (decided_ref s (in_progress (node_change ns)))
-          (decided_ref (new_era_ref era s.nodes s.params (found (record { nodes = ns; parts = [] }))) (in_progress (node_change ns))))
+          (cond b (decided_ref s (in_progress (node_change ns)) (ref_voters s (node_change ns)))
+          (decided_ref (new_era_ref era s.nodes s.params (found (record { nodes = ns; parts = [] }))) (in_progress (node_change ns)) (ref_voters s (node_change ns))))
       wins ns p true = (o, p)
       wins ns p false = (record { nodes_ok = o.nodes_ok; params_ok = o.params_ok; votes_ok = tt; candidate_ok = p }, p)
 
@@ -157,7 +157,7 @@ module _ (z : Sizes) where
         reported h = (
           d_ok.0,
           λ x e set fits.
-              let q : record { batch = record { epoch = s.era + inner; era = s.era; change = d.change; keys = d.state.nodes; params = d.state.params }; faults = (ref_contribs z s cs).faults } ≡ x = cc in
+              let q : record { batch = batch_with (s.era + inner) s.era d.ruling d.state.nodes d.state.params; faults = (ref_contribs z s cs).faults } ≡ x = cc in
               subst (λ (y : RefReport). PlanOk z (plan_of_batch y.batch set)) q
               (record {
                 era_fits = omega (arith, ltb-false);

@@ -18,6 +18,7 @@ use Rattle.internal_contrib.specs.InternalContrib.{ContribOf, read_batch, batch_
 use Rattle.internal_contrib.specs.Places.{message_count}
 use Rattle.dynamic_honey_badger.specs.Asked.{last_report}
 use Rattle.dynamic_honey_badger.specs.State.{era_of, candidate_nodes}
+use Rattle.steps.specs.Steps.{committed}
 use Rattle.process_output.specs.Process.{ProcessedOf, processed}
 use Rattle.reference.specs.Reference.{RefState}
 use Rattle.reference.specs.Step.{ref_run, ref_taken}
@@ -25,13 +26,13 @@ use Rattle.reference.proofs.PassedLaws.{other_taken}
 use Rattle.agreement.specs.Shared.{ref_of}
 use Rattle.agreement.specs.Calls.{batch_call, run, as_shared, batch_calls, given_batches, reports, last_stamp, new_start}
 use Rattle.agreement.specs.Hypotheses.{FullBatch, Full, began_era, left_older, OfBytes, StartBytes}
-use Rattle.agreement.specs.Claim.{Agree, SameOutcome, OneBoard}
+use Rattle.agreement.specs.Claim.{Agree, SameOutcome, OneBoard, VotersListed}
 use Rattle.vote_counter.specs.Calls.{InStep}
 use Rattle.agreement.specs.Formed.{Formed, CallFits, StartFits}
 use Rattle.agreement.specs.Witness.{alone, params, giver_start, adding, completing, batch_of, add_batch, late_batch, complete_stamp, complete_batch, calls_before, calls_after, every_call, opened, added, ended, add_report, joiner_batch, plan_buffer, key_set, plan_length, joiner_opened, observer_opened, observer_calls, slow_calls}
 use Rattle.agreement.proofs.Agree.{start_opens}
 use Rattle.agreement.proofs.Joiner.{run_then}
-use Rattle.agreement.proofs.Claims.{reached_states_formed, one_start_agrees, one_start_agrees_given, joiner_agrees_given, full_replica_follows, other_era_left_out, last_report_told, board_in_step, agreeing_one_board, joiner_one_board}
+use Rattle.agreement.proofs.Claims.{reached_states_formed, one_start_agrees, one_start_agrees_given, joiner_agrees_given, full_replica_follows, other_era_left_out, last_report_told, board_in_step, reports_carried, agreeing_one_board, joiner_one_board}
 use Rattle.agreement.proofs.WitnessReading.{bytes_are, map_bytes_lem, params_bytes_lem, asked_bytes, part_due_bytes, part_sent_bytes, vote_sent_bytes, adding_bytes, adding_read, completing_bytes, completing_read}
 use Rattle.agreement.proofs.WitnessSteps.{starts, observer_starts}
 use Rattle.agreement.proofs.WitnessCalls.{before_leads, every_call_accepted}
@@ -99,6 +100,12 @@ began = ap (λ (x : ProcessedOf). began_era add_report.batch (era_of x.state)) r
 pub left_none : left_older (candidate_nodes (run base opened calls_before).key_gen) (candidate_nodes (processed base (run base opened calls_before) add_batch).state.key_gen) ≡ false
 unfolding left_older
 left_none = λ i. left_older (candidate_nodes (before_leads.1 i).key_gen) (candidate_nodes (reported i).state.key_gen)
+
+-- 02, CR 7: the report of the first batch lists voter 1, so what is said of such a report holds of it
+pub add_carried : VotersListed (run base opened calls_before) (committed base (run base opened calls_before) add_batch.verdicts (adding ∷ [])).state add_report.batch
+add_carried =
+    reports_carried giver_start opened starts calls_before add_batch add_report (ap (λ (x : ProcessedOf). x.answer) reported) (adding ∷ []) _ adding_read
+    (λ e. let none : ⊥ = omega (arith, ap (λ (ids : List ℕ). length ids) e) in none)
 
 -- the claims hold of it: the state at the end is formed
 pub ended_formed : Formed base ended

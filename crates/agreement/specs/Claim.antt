@@ -1,18 +1,22 @@
 -- The claims of demand 3: what is said of a node's whole list of calls, and of two nodes.
-use Rattle.std.specs.Prelude.{ℕ, ◌≡◌, List, ◌⊎◌}
+use Rattle.std.specs.Prelude.{ℕ, ◌≡◌, List, [], ◌⊎◌}
 use Rattle.lists.specs.Lists.{Found, found, nothing}
 use Rattle.bincode.specs.Read.{Read, value, refuse, whole}
 use Rattle.bincode.specs.Numbers.{fixed}
+use Rattle.bincode.specs.Outcome.{Outcome, done, refused}
 use Rattle.bincode.specs.Sizes.{Sizes}
 use Rattle.pub_key_map.specs.declared.Node.{Node}
 use Rattle.pub_key_map.specs.PubKeyMap.{read_map}
 use Rattle.params.specs.declared.Params.{Params}
 use Rattle.params.specs.Params.{read_params}
+use Rattle.change.specs.Change.{ChangeOf, in_progress, complete}
+use Rattle.vote_counter.specs.Carried.{Carries}
+use Rattle.batch.specs.Batch.{BatchOf}
 use Rattle.join_plan.specs.JoinPlan.{PlanOf, read_plan}
-use Rattle.dynamic_honey_badger.specs.State.{StateOf}
+use Rattle.dynamic_honey_badger.specs.State.{StateOf, nodes_in}
 use Rattle.dynamic_honey_badger.specs.Asked.{board_at}
 use Rattle.reference.specs.Reference.{RefState, open_ref}
-use Rattle.reference.specs.Step.{ref_run, ref_answers}
+use Rattle.reference.specs.Step.{RefReport, ref_run, ref_answers}
 use Rattle.agreement.specs.Shared.{ref_of, plan_ref}
 use Rattle.agreement.specs.Calls.{Call, run, shared_batches, answers, reports, Start, new_start, join_start}
 
@@ -57,3 +61,15 @@ SameOutcome z s cs ds =
 -- 02, CR 3: two states have one board: the rows that are kept, and what is handed out at each place
 abbrev pub OneBoard : StateOf → StateOf → Type 0
 OneBoard s t = (s.counter.board ≡ t.counter.board) × ((n : ℕ) → board_at s n ≡ board_at t n)
+
+-- 02, CR 7: the voters that an answer tells; a refusal tells none
+abbrev pub told_voters : Outcome RefReport → List ℕ
+told_voters (done r) = r.batch.voters
+told_voters (refused n) = []
+
+-- who is listed in a report: v is the state with the batch's own votes, before a new era; the map is the one before the batch
+pub record VotersListed (s v : StateOf) (b : BatchOf) : Type 0 where
+  pub same_map : v.counter.nodes ≡ nodes_in s
+  pub won : ChangeOf
+  pub told : (b.change ≡ in_progress won) ⊎ (b.change ≡ complete won)
+  pub carries : Carries v.counter (record { change = won; voters = b.voters })

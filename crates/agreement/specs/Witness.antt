@@ -179,7 +179,7 @@ ended = state_of giver 12 both (remove_vote ∷ joiner_vote ∷ []) nothing [] c
 abbrev pub add_report : ReportOf
 add_report =
     record {
-      batch = record { epoch = 8; era = 5; change = in_progress (node_change both); keys = alone; params = params };
+      batch = record { epoch = 8; era = 5; change = in_progress (node_change both); keys = alone; params = params; voters = 1 ∷ [] };
       faults = [];
       due = record { kind = Part; era = 9 } ∷ [];
       recipe = nothing;
@@ -188,7 +188,7 @@ add_report =
 abbrev pub complete_report : List Fault → RecipeOf → ReportOf
 complete_report faults recipe =
     record {
-      batch = record { epoch = 11; era = 9; change = complete (node_change both); keys = both; params = params };
+      batch = record { epoch = 11; era = 9; change = complete (node_change both); keys = both; params = params; voters = [] };
       faults = faults;
       due = record { kind = Ack 0; era = 9 } ∷ record { kind = Ack 1; era = 9 } ∷ [];
       recipe = found recipe;

@@ -92,7 +92,7 @@ module _ (vs : List SignedVoteOf) where
   abbrev casts : List (Cast ChangeOf)
   casts = map cast_of vs
 
-  cast_at : (j : ℕ) → get_or casts j (cast_of no_signed) ≡ cast_of (get_or vs j no_signed)
+  pub cast_at : (j : ℕ) → get_or casts j (cast_of no_signed) ≡ cast_of (get_or vs j no_signed)
   cast_at j = get_or-map cast_of vs j no_signed
 
   choice_at_lem : (j : ℕ) → get_or (choices casts) j no_signed.vote.change ≡ choice_at vs j

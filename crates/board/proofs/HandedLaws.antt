@@ -1,7 +1,7 @@
 -- The board that is kept of votes by ascending voter: what its rows are, that they add up, and what is handed out by place.
 -- Assumes nothing.
 use Prim.Native.Nat.{ℕ, ◌+◌, ◌≤◌, ◌<◌}
-use mathlib.Core.Path.{◌≡◌, refl, sym, ap, ◌∙◌}
+use mathlib.Core.Path.{◌≡◌, refl, sym, ap, subst, ◌∙◌}
 use mathlib.Core.List.{List, [], ◌∷◌, map}
 use mathlib.Core.Logic.{⊎_elim}
 use native.Mathlib.Omega.{arith}
@@ -35,15 +35,23 @@ pub worked_few : (vs : List SignedVoteOf) → length (worked_out vs) ≤ length 
 unfolding worked_out
 worked_few vs = omega (arith, length-map (board_of vs) kept_row, rows_few same_change (map cast_of vs), length-map vs cast_of)
 
--- voters that ascend do not stand twice
-not_behind : (low : ℕ) (vs : List SignedVoteOf) → AscendsFrom voter_of low vs → (n : ℕ) → n < low → Among n (voters (map cast_of vs)) → ⊥
-not_behind low [] a n h m = m
-not_behind low (v ∷ vs) a n h m =
-    ⊎_elim (λ e. let y : ⊥ = omega (arith, e, a.0) in y) (λ k. not_behind (voter_of v + 1) vs a.1 n (omega (arith, a.0)) k) m
+-- keys that ascend do not stand twice
+module _ {A : Type 0} (key : A → ℕ) where
+  not_behind : (low : ℕ) (xs : List A) → AscendsFrom key low xs → (n : ℕ) → n < low → Among n (map key xs) → ⊥
+  not_behind low [] a n h m = m
+  not_behind low (x ∷ xs) a n h m =
+      ⊎_elim (λ e. let y : ⊥ = omega (arith, e, a.0) in y) (λ k. not_behind (key x + 1) xs a.1 n (omega (arith, a.0)) k) m
+
+  pub ascending_apart : (low : ℕ) (xs : List A) → AscendsFrom key low xs → Unrepeated (map key xs)
+  ascending_apart low [] a = tt
+  ascending_apart low (x ∷ xs) a = (not_behind (key x + 1) xs a.1 (key x) (omega arith), ascending_apart (key x + 1) xs a.1)
+
+voters_are : (vs : List SignedVoteOf) → map voter_of vs ≡ voters (map cast_of vs)
+voters_are [] = refl
+voters_are (v ∷ vs) = ap (λ (ns : List ℕ). voter_of v ∷ ns) (voters_are vs)
 
 pub ascending_unrepeated : (low : ℕ) (vs : List SignedVoteOf) → AscendsFrom voter_of low vs → Unrepeated (voters (map cast_of vs))
-ascending_unrepeated low [] a = tt
-ascending_unrepeated low (v ∷ vs) a = (not_behind (voter_of v + 1) vs a.1 (voter_of v) (omega arith), ascending_unrepeated (voter_of v + 1) vs a.1)
+ascending_unrepeated low vs a = subst Unrepeated (voters_are vs) (ascending_apart voter_of low vs a)
 
 module _ (vs : List SignedVoteOf) (ascend : AscendsFrom voter_of 0 vs) where
   -- it is the board of the votes, as 02 says it

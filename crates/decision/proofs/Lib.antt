@@ -1,2 +1,3 @@
 pub mod DecisionLaws
 pub mod PageLaws
+pub mod CarriedLaws

@@ -13,7 +13,7 @@ use Rattle.network_info.specs.NetworkInfo.{is_member}
 use Rattle.honey_badger.specs.declared.EncryptionSchedule.{EncryptionSchedule}
 use Rattle.change.specs.Change.{node_change, encryption_schedule, none, in_progress, complete}
 use Rattle.due.specs.declared.DueKind.TheVariants.{Part}
-use Rattle.vote_counter.specs.VoteCounter.{CounterOf, compute_winner}
+use Rattle.vote_counter.specs.VoteCounter.{CounterOf, compute_winner, supporters_of, carried}
 use Rattle.key_gen.specs.KeyGen.{ready}
 use Rattle.key_gen_state.specs.KeyGenState.{KeyGenStateOf, ready_state}
 use Rattle.recipe.specs.Recipe.{recipe}
@@ -33,7 +33,7 @@ module _ (z : Sizes) (era : ℕ) (s : StateOf) where
       → decide z era s
       ≡ record {
         state = record { counter = emptied era g.key_gen.nodes s; params = s.params; key_gen = nothing; store = from_era era s.store; last = s.last };
-        change = complete (node_change g.key_gen.nodes);
+        ruling = record { change = complete (node_change g.key_gen.nodes); voters = [] };
         due = [];
         recipe = found (recipe g.key_gen);
       }
@@ -51,8 +51,8 @@ module _ (z : Sizes) (era : ℕ) (s : StateOf) where
 
     module _ (ns : List Node) (won : compute_winner s.counter ≡ found (node_change ns)) where
       -- step 7: "equal to the candidate map, report `InProgress` and restart nothing": the votes stay
-      pub candidate_wins : (g : KeyGenStateOf) → s.key_gen ≡ found g → g.key_gen.nodes ≡ ns → decide z era s ≡ record { state = s; change = in_progress (node_change ns); due = []; recipe = nothing }
-      unfolding decide map_wins
+      pub candidate_wins : (g : KeyGenStateOf) → s.key_gen ≡ found g → g.key_gen.nodes ≡ ns → decide z era s ≡ record { state = s; ruling = record { change = in_progress (node_change ns); voters = supporters_of s.counter.committed (node_change ns) }; due = []; recipe = nothing }
+      unfolding decide carried map_wins
       candidate_wins g e q =
           let same : is_candidate (candidate_nodes s.key_gen) ns ≡ true = ap (λ (k : Found KeyGenStateOf). is_candidate (candidate_nodes k) ns) e ∙ ap (λ (ms : List Node). same_nodes ms ns) q ∙ map_refl ns in
           rw (not_ready, won, same)
@@ -75,12 +75,12 @@ module _ (z : Sizes) (era : ℕ) (s : StateOf) where
 
         -- "a part for each fresh key generation, where the candidate map holds this station", with the new era
         pub map_wins_inside : is_member ns s.counter.our_id ≡ true
-            → decide z era s ≡ record { state = begun; change = in_progress (node_change ns); due = record { kind = Part; era = era } ∷ []; recipe = nothing }
-        unfolding decide map_wins key_gen_for new_era
+            → decide z era s ≡ record { state = begun; ruling = record { change = in_progress (node_change ns); voters = supporters_of s.counter.committed (node_change ns) }; due = record { kind = Part; era = era } ∷ []; recipe = nothing }
+        unfolding decide carried map_wins key_gen_for new_era
         map_wins_inside m = rw (not_ready, won, differs, m)
 
-        pub map_wins_outside : is_member ns s.counter.our_id ≡ false → decide z era s ≡ record { state = begun; change = in_progress (node_change ns); due = []; recipe = nothing }
-        unfolding decide map_wins key_gen_for new_era
+        pub map_wins_outside : is_member ns s.counter.our_id ≡ false → decide z era s ≡ record { state = begun; ruling = record { change = in_progress (node_change ns); voters = supporters_of s.counter.committed (node_change ns) }; due = []; recipe = nothing }
+        unfolding decide carried map_wins key_gen_for new_era
         map_wins_outside m = rw (not_ready, won, differs, m)
 
     -- "a schedule, put into the parameters, new era, `Complete`, key generation kept", with its counts
@@ -98,14 +98,14 @@ module _ (z : Sizes) (era : ℕ) (s : StateOf) where
             store = from_era era s.store;
             last = s.last;
           };
-          change = complete (encryption_schedule x);
+          ruling = record { change = complete (encryption_schedule x); voters = supporters_of s.counter.committed (encryption_schedule x) };
           due = [];
           recipe = nothing;
         }
-    unfolding decide schedule_wins new_era
+    unfolding decide carried schedule_wins new_era
     schedule_kept x e = rw (not_ready, e)
 
     -- step 8: "Otherwise report `None`"
-    pub nothing_won : compute_winner s.counter ≡ nothing → decide z era s ≡ record { state = s; change = none; due = []; recipe = nothing }
-    unfolding decide
+    pub nothing_won : compute_winner s.counter ≡ nothing → decide z era s ≡ record { state = s; ruling = record { change = none; voters = [] }; due = []; recipe = nothing }
+    unfolding decide carried
     nothing_won e = rw (not_ready, e)

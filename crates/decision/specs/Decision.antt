@@ -1,19 +1,20 @@
 -- 01, steps 6 to 8: what a batch decides, once its votes and messages are in.
 use Rattle.std.specs.Prelude.{ℕ, List, [], ◌∷◌, Bool, false, cond, None}
 use Rattle.std.specs.declared.option.Option.{Option}
-use Rattle.lists.specs.Lists.{Found, found, nothing, option_as_found}
+use Rattle.lists.specs.Lists.{Found, found, nothing, map_found, option_as_found}
 use Rattle.bincode.specs.Sizes.{Sizes}
 use Rattle.pub_key_map.specs.declared.Node.{Node}
 use Rattle.pub_key_map.specs.PubKeyMap.{same_nodes}
 use Rattle.honey_badger.specs.declared.EncryptionSchedule.{EncryptionSchedule}
 use Rattle.params.specs.declared.Params.{Params}
-use Rattle.change.specs.declared.Change.{Change}
-use Rattle.change.specs.declared.ChangeState.{ChangeState}
-use Rattle.change.specs.Change.{ChangeOf, change_of, node_change, encryption_schedule, ChangeStateOf, none, in_progress, complete, state_of as progress_of}
+use Rattle.change.specs.Change.{ChangeOf, change_of, node_change, encryption_schedule, none, in_progress, complete}
 use Rattle.due.specs.declared.DueKind.TheVariants.{Part}
 use Rattle.due.specs.declared.DueItem.{DueItem}
 use Rattle.vote_counter.specs.declared.VoteCounter.{VoteCounter}
-use Rattle.vote_counter.specs.VoteCounter.{compute_winner, counter_of}
+use Rattle.voters.specs.Voters.{ids_of}
+use Rattle.batch.specs.declared.Ruling.{Ruling}
+use Rattle.batch.specs.Batch.{RulingOf, unvoted, ruling_of}
+use Rattle.vote_counter.specs.VoteCounter.{CarriedOf, compute_winner, carried, counter_of}
 use Rattle.key_gen_message.specs.KeyGenMessage.{SignedKeyGenMsgOf}
 use Rattle.key_gen_state.specs.declared.KeyGenState.{KeyGenState}
 use Rattle.key_gen_state.specs.KeyGenState.{KeyGenStateOf, ready_state, state_of}
@@ -24,40 +25,41 @@ use Rattle.joining.specs.Starting.{is_empty}
 use Rattle.dynamic_honey_badger.specs.State.{StateOf, Stamp, nodes_in, with_key_gen, with_params, new_era, key_gen_for, part_due, candidate_nodes}
 use Rattle.decision.specs.declared.Parts.{Parts}
 use Rattle.decision.specs.declared.Decision.{Decision}
+use Rattle.decision.specs.declared.Carried.{Carried}
 
--- the state after the batch, the reported change, the due items that arise here, and the recipe where key generation completed
+-- the state after the batch, what the report tells (the change, and who carried it), the due items that arise here, and the recipe where key generation completed
 pub record Decided : Type 0 where
   pub state : StateOf
-  pub change : ChangeStateOf
+  pub ruling : RulingOf
   pub due : List DueItem
   pub recipe : Found RecipeOf
 
-abbrev pub decided_as : StateOf → ChangeStateOf → Decided
-decided_as s c = record { state = s; change = c; due = []; recipe = nothing }
+abbrev pub decided_as : StateOf → RulingOf → Decided
+decided_as s r = record { state = s; ruling = r; due = []; recipe = nothing }
 
--- step 6: the candidate map takes effect, key generation ends, a new era begins
+-- step 6: the candidate map takes effect, key generation ends, a new era begins; 02, CR 7: whoever has won, no voter is listed
 abbrev pub completed_by : ℕ → StateOf → Found KeyGenStateOf → Decided
 completed_by era s (found g) =
     record {
       state = new_era era g.key_gen.nodes (with_key_gen s nothing);
-      change = complete (node_change g.key_gen.nodes);
+      ruling = unvoted (complete (node_change g.key_gen.nodes));
       due = [];
       recipe = found (recipe g.key_gen);
     }
-completed_by era s nothing = decided_as s none
+completed_by era s nothing = decided_as s (unvoted none)
 
--- step 7, a map wins: equal to the candidate map, nothing restarts; another one, new era and fresh key generation
+-- step 7, a map wins, carried by some voters: equal to the candidate map, nothing restarts; another one, new era and fresh key generation
 abbrev pub is_candidate : Found (List Node) → List Node → Bool
 is_candidate (found ms) ns = same_nodes ms ns
 is_candidate nothing ns = false
 
-unfoldable pub map_wins : Sizes → ℕ → StateOf → List Node → Decided
-map_wins z era s ns =
+unfoldable pub map_wins : Sizes → ℕ → StateOf → List ℕ → List Node → Decided
+map_wins z era s voters ns =
     cond (is_candidate (candidate_nodes s.key_gen) ns)
-    (decided_as s (in_progress (node_change ns)))
+    (decided_as s (record { change = in_progress (node_change ns); voters = voters }))
     (record {
       state = key_gen_for z ns (new_era era (nodes_in s) s);
-      change = in_progress (node_change ns);
+      ruling = record { change = in_progress (node_change ns); voters = voters };
       due = part_due ns s.counter.our_id era;
       recipe = nothing;
     })
@@ -66,26 +68,37 @@ map_wins z era s ns =
 abbrev pub with_schedule : Params → EncryptionSchedule → Params
 with_schedule p x = record { max_future_epochs = p.max_future_epochs; subset_handling_strategy = p.subset_handling_strategy; encryption_schedule = x }
 
-unfoldable pub schedule_wins : ℕ → StateOf → EncryptionSchedule → Decided
-schedule_wins era s x = decided_as (new_era era (nodes_in s) (with_params s (with_schedule s.params x))) (complete (encryption_schedule x))
+unfoldable pub schedule_wins : ℕ → StateOf → List ℕ → EncryptionSchedule → Decided
+schedule_wins era s voters x =
+    decided_as (new_era era (nodes_in s) (with_params s (with_schedule s.params x))) (record { change = complete (encryption_schedule x); voters = voters })
 
 -- steps 7 and 8
-abbrev pub elected_by : Sizes → ℕ → StateOf → Found ChangeOf → Decided
-elected_by z era s (found (node_change ns)) = map_wins z era s ns
-elected_by z era s (found (encryption_schedule x)) = schedule_wins era s x
-elected_by z era s nothing = decided_as s none
+abbrev pub won_by : Sizes → ℕ → StateOf → List ℕ → ChangeOf → Decided
+won_by z era s voters (node_change ns) = map_wins z era s voters ns
+won_by z era s voters (encryption_schedule x) = schedule_wins era s voters x
+
+abbrev pub elected_by : Sizes → ℕ → StateOf → Found CarriedOf → Decided
+elected_by z era s (found w) = won_by z era s w.voters w.change
+elected_by z era s nothing = decided_as s (unvoted none)
 
 -- a ready key generation comes before the winner; the era that a change begins is batch epoch + 1
 unfoldable pub decide : Sizes → ℕ → StateOf → Decided
-decide z era s = cond (ready_state s.key_gen) (completed_by era s s.key_gen) (elected_by z era s (compute_winner s.counter))
+decide z era s = cond (ready_state s.key_gen) (completed_by era s s.key_gen) (elected_by z era s (carried s.counter))
 
 -- the same where the winner is given
-abbrev pub decide_by : Sizes → ℕ → StateOf → Found ChangeOf → Decided
+abbrev pub decide_by : Sizes → ℕ → StateOf → Found CarriedOf → Decided
 decide_by z era s w = cond (ready_state s.key_gen) (completed_by era s s.key_gen) (elected_by z era s w)
 
 -- as code holds it: the winner, and the recipe
-abbrev pub elected_of : Option Change → Found ChangeOf
-elected_of e = option_as_found change_of e
+abbrev pub carried_held : Carried → CarriedOf
+carried_held e = record { change = change_of e.change; voters = ids_of e.voters }
+
+abbrev pub elected_of : Option Carried → Found CarriedOf
+elected_of e = option_as_found carried_held e
+
+-- the change that has won
+abbrev pub change_in : Found CarriedOf → Found ChangeOf
+change_in w = map_found (λ (x : CarriedOf). x.change) w
 
 abbrev pub said_recipe : Option Recipe → Found RecipeOf
 said_recipe r = option_as_found recipe_of r
@@ -102,14 +115,14 @@ abbrev pub decided_of : ℕ → List SignedKeyGenMsgOf → Found Stamp → Parts
 decided_of era st l p d =
     record {
       state = of_parts p (cond d.restarted (from_era era st) st) l;
-      change = progress_of d.change;
+      ruling = ruling_of d.ruling;
       due = cond d.part_due (record { kind = Part; era = era } ∷ []) [];
       recipe = said_recipe d.recipe;
     }
 
 -- the struct of a decision without a recipe
-abbrev pub without_recipe : Bool → ChangeState → Bool → Decision
-without_recipe restarted change due = record { restarted = restarted; change = change; part_due = due; recipe = None }
+abbrev pub without_recipe : Bool → Ruling → Bool → Decision
+without_recipe restarted r due = record { restarted = restarted; ruling = r; part_due = due; recipe = None }
 
 -- row 7: the winning map is empty
 abbrev pub is_empty_map : Found ChangeOf → Bool

@@ -40,7 +40,10 @@ pub(crate) fn winner(b: &[u8], out: &mut String) -> Result<(), Failure> {
     let (map, at) = <PubKeyMap as Decoded<FixintEncoding>>::read(b, 0)?;
     let counter = commit_votes(map, b, at)?;
     let committed = counter.committed;
-    match counter.compute_winner().and_then(|i| committed.votes.at(i)) {
+    match counter
+        .compute_winner()
+        .and_then(|w| committed.votes.at(w.place))
+    {
         Some(winner) => {
             let change = encoded(*out.allocator(), winner.vote.change)?;
             writeln!(out, "ok {}", Hex(&change))?;

@@ -1,4 +1,4 @@
--- 01, "Half-marathon examples": the marked ones (*), in their order; and 02's key messages of a leaving node, boards, join plans in both editions and votes of old numbers. A later layer adds its own kind of row here.
+-- 01, "Half-marathon examples": the marked ones (*), in their order; and 02's key messages of a leaving node, boards, join plans in both editions, votes of old numbers and voters behind a winner. A later layer adds its own kind of row here.
 use Rattle.std.specs.Prelude.{ℕ, zero, suc, ◌+◌, ◌-◌, ◌^◌, ◌≡◌, List, [], ◌∷◌, Bool, true, false, length, take, replicate}
 use Rattle.lists.specs.Lists.{Found, found, nothing}
 use Rattle.bincode.specs.Read.{value, whole}
@@ -38,6 +38,8 @@ pub data Row : Type 0 where
   blamed : RefState → ℕ → List ContribOf → List Fault → Row
   -- the votes that are stored behind it (02, CR 6)
   kept : RefState → ℕ → List ContribOf → List SignedVoteOf → Row
+  -- the voters that its report lists (02, CR 7)
+  listed : RefState → ℕ → List ContribOf → List ℕ → Row
   -- the board of some voters with their choices: counts and choices, in order (02, CR 3)
   shown : List (Cast ChangeOf) → List (ℕ × ChangeOf) → Row
   -- a vote as bytes
@@ -101,10 +103,24 @@ abbrev pub faults_of : Outcome RefReport → Outcome (List Fault)
 faults_of (done r) = done r.faults
 faults_of (refused n) = refused n
 
+-- the voters of a report
+abbrev pub voters_of : Outcome RefReport → Outcome (List ℕ)
+voters_of (done r) = done r.batch.voters
+voters_of (refused n) = refused n
+
+-- votes as a batch of one contribution
+abbrev pub ballot : List SignedVoteOf → List ContribOf
+ballot vs = record { id = 3; user = []; messages = []; votes = vs } ∷ []
+
 -- the fourth of the nodes leaves: key generation runs for the other three
 abbrev pub leaves_in : ℕ → RefState
 leaves_in era =
     record { era = era; nodes = four; params = (in_era era).params; votes = []; candidate = found (record { nodes = nodes_from 1 3; parts = [] }) }
+
+-- and is ready for them: each part has all three acks
+abbrev pub ready_in : ℕ → RefState
+ready_in era =
+    record { era = era; nodes = four; params = (in_era era).params; votes = []; candidate = found (record { nodes = nodes_from 1 3; parts = parts_from 0 (3 ∷ 3 ∷ 3 ∷ []) }) }
 
 -- what a node has signed in an era: a part with so many rows, or an ack of the part of the proposer with an index
 abbrev pub part_of : ℕ → ℕ → List ℕ → SignedKeyGenMsgOf
@@ -133,6 +149,9 @@ abbrev pub second : ℕ → ℕ → ℕ → ChangeOf → SignedVoteOf
 second era num key c = record { vote = record { change = c; era = era; num = num }; voter = 2; sig = key }
 
 -- the second node gets key 22: key generation runs for that map. Its vote with number 1 is stored.
+abbrev pub renewed : List Node
+renewed = record { id = 1; key = 11 } ∷ record { id = 2; key = 22 } ∷ nodes_from 3 2
+
 abbrev pub renewed_in : ℕ → ChangeOf → RefState
 renewed_in era c =
     record {
@@ -140,7 +159,7 @@ renewed_in era c =
       nodes = four;
       params = (in_era era).params;
       votes = second era 1 12 c ∷ [];
-      candidate = found (record { nodes = record { id = 1; key = 11 } ∷ record { id = 2; key = 22 } ∷ nodes_from 3 2; parts = [] });
+      candidate = found (record { nodes = renewed; parts = [] });
     }
 
 -- The first node proposes votes of old numbers: of another era, under no key, both, under the key to come, and a valid one. The third node proposes a new one, and
@@ -190,6 +209,7 @@ Holds (finished n acks b) = is_ready (record { nodes = nodes_from 1 n; parts = p
 Holds (moved s inner cs epoch era) = (epoch_of (ref_batch base s inner cs).answer ≡ done epoch) × ((ref_batch base s inner cs).state.era ≡ era)
 Holds (blamed s inner cs fs) = faults_of (ref_batch base s inner cs).answer ≡ done fs
 Holds (kept s inner cs vs) = (ref_batch base s inner cs).state.votes ≡ vs
+Holds (listed s inner cs ids) = voters_of (ref_batch base s inner cs).answer ≡ done ids
 Holds (shown vs rs) = shown_of (board.board same_change vs) ≡ rs
 Holds (encoded v bytes) = vote_bytes v ≡ bytes
 Holds (planned p old new) =
@@ -270,4 +290,14 @@ rows =
     (fault_of 1 InvalidCommittedVote ∷ fault_of 1 InvalidCommittedVote ∷ fault_of 1 InvalidCommittedVote ∷ fault_of 1 InvalidCommittedVote ∷
     fault_of 3 InvalidCommittedVote ∷ fault_of 3 InvalidCommittedVote ∷ [])
     ∷ kept (renewed_in 5 X) 3 (forged 5 X Y) (second 5 2 12 Y ∷ [])
+    -- 02, CR 7: 1:X, 2:Y, 3:Y, 4:X, and Y wins by 2 and 3; 1:X, 2:X, 3:Y, 4:X, and X wins by 4 too, who stands behind the voter at whom counting stops
+    ∷ listed (in_era 0) 3 (ballot (votes_from 1 (X ∷ Y ∷ Y ∷ X ∷ []))) (2 ∷ 3 ∷ [])
+    ∷ listed (in_era 0) 3 (ballot (votes_from 1 (X ∷ X ∷ Y ∷ X ∷ []))) (1 ∷ 2 ∷ 4 ∷ [])
+    -- the vote of 2 is of an earlier batch; then 2 goes over to Y; and nobody is listed with `None`, though a vote is left
+    ∷ listed (renewed_in 5 X) 3 (ballot (vote_of 5 4 X ∷ [])) (2 ∷ 4 ∷ [])
+    ∷ listed (renewed_in 5 X) 3 (ballot (second 5 2 12 Y ∷ vote_of 5 4 X ∷ vote_of 5 1 X ∷ [])) (1 ∷ 4 ∷ [])
+    ∷ listed (renewed_in 5 X) 3 (ballot []) []
+    -- the candidate map wins again; and a ready key generation completes, where Y passes f
+    ∷ listed (renewed_in 5 X) 3 (ballot (vote_of 5 4 (node_change renewed) ∷ vote_of 5 1 (node_change renewed) ∷ [])) (1 ∷ 4 ∷ [])
+    ∷ listed (ready_in 5) 3 (two_for 5 Y) []
     ∷ []

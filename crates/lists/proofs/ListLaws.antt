@@ -8,11 +8,20 @@ use native.Mathlib.Omega.{arith}
 use native.Mathlib.Numerals.{add-one}
 use lib.ListN.{length, take, drop, get_or, set, replicate, length-append, length-take, length-replicate, drop_of_length-le}
 use lib.Seq.{drop-cons, get_or-take, set_at, take_at, take-suc-set}
-use Rattle.lists.specs.Lists.{padded, eq_list}
+use Rattle.lists.specs.Lists.{found, nothing, padded, eq_list}
 
 -- a test does not come out both ways
 pub false_true : ◌≡◌ {A = Bool} false true → ⊥
 false_true e = let z : ◌≡◌ {A = ℕ} 0 1 = ap (λ (b : Bool). cond b 1 0) e in omega arith
+
+module _ {A : Type 0} {a : A} where
+  -- what is found is one value
+  pub found_same : {b : A} → found a ≡ found b → a ≡ b
+  found_same e = cc
+
+  -- and nothing is not found
+  pub not_found : nothing ≡ found a → ⊥
+  not_found e = let z : ◌≡◌ {A = ℕ} 0 1 = cc in omega arith
 
 -- what two tests in a row say
 pub and_both : (a b : Bool) → (a && b) ≡ true → (a ≡ true) × (b ≡ true)

@@ -15,7 +15,8 @@ use Rattle.std.specs.List.{position_from}
 use Rattle.std.specs.Option.{is_some, option_map}
 use Rattle.pub_key_map.specs.declared.Node.{Node}
 use Rattle.pub_key_map.specs.PubKeyMap.{id_of, no_node}
-use Rattle.lists.specs.Lists.{Found, found, nothing, map_found, option_as_found, lookup}
+use Rattle.lists.specs.Lists.{found, nothing, map_found, option_as_found, lookup}
+use Rattle.lists.proofs.ListLaws.{not_found}
 use Rattle.network_info.specs.NetworkInfo.{index_from, key_of, is_member}
 
 -- the search answers the place of the first node with the id
@@ -29,14 +30,11 @@ index_position (n ∷ ns) i id = go (eqb n.id id) (index_position ns (i + 1) id)
     go true h = refl
     go false h = h
 
-never : {A : Type 0} (a : A) → ◌≡◌ {A = Found A} nothing (found a) → ⊥
-never a e = let z : ◌≡◌ {A = ℕ} 0 1 = cc in omega arith
-
 -- a node that is found is a member, its index lies in the list, and its key stands there
 pub index_found : (ns : List Node) (j i id : ℕ) → index_from j ns id ≡ found i
     → (j ≤ i) × (i < j + length ns) × (is_member ns id ≡ true) × (key_of ns id ≡ found (get_or ns (i - j) no_node).key)
 unfolding index_from key_of is_member
-index_found [] j i id e = absurd (never i e)
+index_found [] j i id e = absurd (not_found e)
 index_found (n ∷ ns) j i id e = go (eqb n.id id) e (index_found ns (j + 1) i id)
   where
     go : (b : Bool) → cond b (found j) (index_from (j + 1) ns id) ≡ found i
@@ -60,7 +58,7 @@ index_nothing (n ∷ ns) j id e = go (eqb n.id id) e (index_nothing ns (j + 1) i
   where
     go : (b : Bool) → cond b (found j) (index_from (j + 1) ns id) ≡ nothing → (index_from (j + 1) ns id ≡ nothing → (is_member ns id ≡ false) × (key_of ns id ≡ nothing))
         → (cond b true (is_member ns id) ≡ false) × (cond b (found n.key) (key_of ns id) ≡ nothing)
-    go true e ih = absurd (never j (sym e))
+    go true e ih = absurd (not_found (sym e))
     go false e ih = ih e
 
 -- so membership is whether there is an index
@@ -81,7 +79,7 @@ index_within xs k i id e =
 -- the node at the index of an id has that id
 pub index_id : (ns : List Node) (j i id : ℕ) → index_from j ns id ≡ found i → (get_or ns (i - j) no_node).id ≡ id
 unfolding index_from
-index_id [] j i id e = absurd (never i e)
+index_id [] j i id e = absurd (not_found e)
 index_id (n ∷ ns) j i id e = go (eqb n.id id) refl e (index_id ns (j + 1) i id) (λ r. (index_found ns (j + 1) i id r).0)
   where
     go : (b : Bool) → eqb n.id id ≡ b → cond b (found j) (index_from (j + 1) ns id) ≡ found i

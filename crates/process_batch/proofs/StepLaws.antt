@@ -27,7 +27,8 @@ use Rattle.due.specs.declared.DueKind.TheVariants.{Part}
 use Rattle.due.specs.declared.DueItem.{DueItem}
 use Rattle.due.specs.Due.{ack_item}
 use Rattle.filled.specs.Numbers.{part_in, owed}
-use Rattle.change.specs.Change.{none, state_held, state_of as progress_of}
+use Rattle.change.specs.Change.{none, state_held}
+use Rattle.batch.specs.Batch.{batch_with, ruling_of, unvoted_held, batch_held}
 use Rattle.message_store.specs.declared.MessageStore.{MessageStore}
 use Rattle.message_store.specs.MessageStore.{store_of, from_era}
 use Rattle.vote_counter.specs.VoteCounter.{counter_of}
@@ -173,7 +174,7 @@ module _ (s : DynamicHoneyBadger) (b : BatchCall) (t : BatchTime) (at : IsAt t s
             last = found (record { epoch = t.epoch; era = at.by_era j });
           }),
           (λ j. done (record {
-            batch = record { epoch = t.epoch; era = at.by_era j; change = progress_of d.change; keys = nodes_of p.vote_counter.pub_keys; params = p.params };
+            batch = batch_with t.epoch (at.by_era j) (ruling_of d.ruling) (nodes_of p.vote_counter.pub_keys) p.params;
             faults = length (held.faults j);
             due = counted few j;
             recipe = said_recipe d.recipe;
@@ -198,12 +199,12 @@ module _ (s : DynamicHoneyBadger) (b : BatchCall) (t : BatchTime) (at : IsAt t s
   moved_quiet q few u e o told =
       record {
         p = parts;
-        d = without_recipe false (state_held none) false;
+        d = without_recipe false (unvoted_held (state_held none)) false;
         decides = quiet_decides b.bytes s.params s.vote_counter c q t.next_era;
         few = few;
         told = told ∙ (λ j. record {
           report = record {
-            batch = record { epoch = t.epoch; era = t.era; change = state_held none; pub_keys = s.vote_counter.pub_keys; params = s.params };
+            batch = batch_held t.epoch t.era (unvoted_held (state_held none)) s.vote_counter.pub_keys s.params;
             faults = length (faults_of r.faults);
             due = no_more (length (acks_of r)) j;
             recipe = None;

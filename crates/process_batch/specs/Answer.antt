@@ -10,7 +10,7 @@ use Rattle.bincode.specs.declared.Refusal.{Refusal}
 use Rattle.pub_key_map.specs.declared.PubKeyMap.{PubKeyMap}
 use Rattle.change.specs.Change.{none, state_held}
 use Rattle.recipe.specs.Recipe.{RecipeOf}
-use Rattle.batch.specs.Batch.{BatchOf, batch_of}
+use Rattle.batch.specs.Batch.{BatchOf, unvoted_held, batch_held, batch_of}
 use Rattle.params.specs.declared.Params.{Params}
 use Rattle.key_gen_message.specs.KeyGenMessage.{SignedKeyGenMsgOf}
 use Rattle.message_store.specs.MessageStore.{from_era}
@@ -63,7 +63,7 @@ abbrev pub told_of : BatchTime → Parts → Decision → ℕ → ℕ → Told
 told_of t p d faults acks =
     record {
       report = record {
-        batch = record { epoch = t.epoch; era = t.era; change = d.change; pub_keys = p.vote_counter.pub_keys; params = p.params };
+        batch = batch_held t.epoch t.era d.ruling p.vote_counter.pub_keys p.params;
         faults = faults;
         due = acks + length (part_in (part_behind acks d.part_due t.next_era));
         recipe = d.recipe;
@@ -77,7 +77,7 @@ abbrev pub nothing_decided : BatchTime → PubKeyMap → Params → ℕ → ℕ 
 nothing_decided t m p faults acks =
     record {
       report = record {
-        batch = record { epoch = t.epoch; era = t.era; change = state_held none; pub_keys = m; params = p };
+        batch = batch_held t.epoch t.era (unvoted_held (state_held none)) m p;
         faults = faults;
         due = acks;
         recipe = None;

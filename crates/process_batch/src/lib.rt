@@ -11,18 +11,19 @@ ghost use Rattle.key_gen_state.specs.KeyGenState as running;
 ghost use Rattle.message_store.specs.MessageStore.{store_of};
 ghost use Rattle.internal_contrib.specs.Index.{contribs_in};
 ghost use Rattle.commit.specs.Arisen.{acks_of};
-ghost use Rattle.decision.specs.Decision.{elected_of, is_empty_map};
+ghost use Rattle.batch.specs.Batch.{batch_held};
+ghost use Rattle.decision.specs.Decision.{elected_of, change_in, is_empty_map};
 ghost use Rattle.process_output.specs.Opening.{call_by};
 ghost use Rattle.process_batch.specs.Answer.{faults_told, nothing_decided, told_of, kept_by};
 ghost use Rattle.process_batch.specs.Steps.{BegunAs, CommittedAs, FewArisen, Quiet, SettledAs, StepsDone};
 ghost use Rattle.process_batch.specs.Lent.{BatchDone};
 
-use batch::Batch;
+use batch::{Batch, Ruling};
 use bincode::Refusal;
-use change::{Change, ChangeState};
+use change::ChangeState;
 use commit::tally::Tally;
 use commit::{Arisen, Committed, Terms};
-use decision::{Decision, Parts};
+use decision::{Carried, Decision, Parts};
 use due::DueList;
 use dynamic_honey_badger::{DynamicHoneyBadger, ReportStamp};
 use filled::{DueLists, FaultLists};
@@ -52,6 +53,13 @@ impl BatchTime {
             epoch: self.epoch,
             era: self.era,
         }
+    }
+
+    // The report of the batch; map and parameters are those after it.
+    fn report(self, ruling: Ruling, pub_keys: PubKeyMap, params: Params) -> Batch
+        ensures { result ≡ batch_held self.epoch self.era ruling pub_keys params }
+    {
+        Batch::new(self.epoch, self.era, ruling, pub_keys, params)
     }
 }
 
@@ -135,13 +143,7 @@ fn nothing_decided(time: BatchTime, pub_keys: PubKeyMap, params: Params, arisen:
 {
     Told {
         report: Report {
-            batch: Batch {
-                epoch: time.epoch,
-                era: time.era,
-                change: ChangeState::none(),
-                pub_keys,
-                params,
-            },
+            batch: time.report(Ruling::unvoted(ChangeState::none()), pub_keys, params),
             faults: arisen.faults.len(),
             due: arisen.acks.len(),
             recipe: None,
@@ -160,13 +162,7 @@ fn decided(parts: &Parts, d: &Decision, time: BatchTime, arisen: &Arisen) -> Tol
     let part = (d.part_due && acks < DueList::LIMIT).then_some(time.next_era);
     Told {
         report: Report {
-            batch: Batch {
-                epoch: time.epoch,
-                era: time.era,
-                change: d.change,
-                pub_keys: parts.vote_counter.pub_keys,
-                params: parts.params,
-            },
+            batch: time.report(d.ruling, parts.vote_counter.pub_keys, parts.params),
             faults: arisen.faults.len(),
             due: acks + part.is_some() as usize,
             recipe: d.recipe,
@@ -177,8 +173,8 @@ fn decided(parts: &Parts, d: &Decision, time: BatchTime, arisen: &Arisen) -> Tol
 }
 
 // Row 7: an empty map wins, and key generation is not ready.
-fn is_void(state: &Option<KeyGenState>, e: Option<Change>) -> bool
-    ensures { result ≡ cond (running.ready_state (running.state_of state.now)) false (is_empty_map (elected_of e)) }
+fn is_void(state: &Option<KeyGenState>, e: &Option<Carried>) -> bool
+    ensures { result ≡ cond (running.ready_state (running.state_of state.now)) false (is_empty_map (change_in (elected_of e.now))) }
 {
     !key_gen_state::is_ready(state) && decision::is_empty_map(e)
 }
@@ -189,7 +185,7 @@ fn settle(parts: &mut Parts, s: &[u8], tally: Tally, next_era: u64) -> Result<De
 {
     parts.vote_counter = commit::voting::put_votes(parts.vote_counter, s, tally);
     let e = decision::elect(&parts.vote_counter);
-    if is_void(&parts.key_gen_state, e) {
+    if is_void(&parts.key_gen_state, &e) {
         return Err(Refusal::EmptyMapWins);
     }
     Ok(decision::decide(parts, next_era, e))

@@ -2,3 +2,4 @@ pub mod SomeLaws
 pub mod OpeningLaws
 pub mod PageLaws
 pub mod CallLaws
+pub mod CarriedLaws

@@ -40,6 +40,7 @@ module _ (z : Sizes) (s : StateOf) (b : BatchCall) (cs : List ContribOf) (c : â„
     -- 01, step 1: "Batch epoch = era + inner epoch"; step 6: the new era is "batch epoch + 1"
     (d : Decided) (decided : decide z (s.counter.era + b.inner + 1) w.state â‰¡ d) where
   -- "The report is epoch, era of the batch, change, map and parameters": the era is that before the batch, map and parameters are those after it. "Beside it stand the recipe and a due list".
+  -- 02, CR 7: it hands on the list of the decision.
   -- 02, CR 1: the engine keeps "the era and epoch of its last report": the era is the batch's, also where the batch began another
   pub reported_as : length w.due + length d.due â‰¤ z.due
       â†’ processed z s b
@@ -56,9 +57,10 @@ module _ (z : Sizes) (s : StateOf) (b : BatchCall) (cs : List ContribOf) (c : â„
               batch = record {
                 epoch = s.counter.era + b.inner;
                 era = s.counter.era;
-                change = d.change;
+                change = d.ruling.change;
                 keys = d.state.counter.nodes;
                 params = d.state.params;
+                voters = d.ruling.voters;
               };
               faults = w.faults;
               due = w.due ++ d.due;

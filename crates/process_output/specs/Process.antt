@@ -8,7 +8,7 @@ use Rattle.bincode.specs.Sizes.{Sizes}
 use Rattle.fault_log.specs.declared.Fault.{Fault}
 use Rattle.due.specs.declared.DueItem.{DueItem}
 use Rattle.recipe.specs.Recipe.{RecipeOf}
-use Rattle.batch.specs.Batch.{BatchOf}
+use Rattle.batch.specs.Batch.{BatchOf, batch_with}
 use Rattle.internal_contrib.specs.InternalContrib.{ContribOf, read_batch}
 use Rattle.dynamic_honey_badger.specs.Asked.{row5}
 use Rattle.dynamic_honey_badger.specs.State.{StateOf, Stamp, era_of, nodes_in, with_last}
@@ -41,7 +41,7 @@ pub record ProcessedOf : Type 0 where
 abbrev pub denied : StateOf → ℕ → ProcessedOf
 denied s n = record { state = s; answer = refused n }
 
--- 01: the report is epoch, era of the batch, change, map and parameters; map and parameters are those after the batch. 02, CR 1: the state keeps the report's epoch
+-- 01: the report is epoch, era of the batch, change, map and parameters; map and parameters are those after the batch. 02, CR 7: and who carried the change. 02, CR 1: the state keeps the report's epoch
 -- and era, so the old era where the batch began a new one.
 abbrev pub reported : Sizes → StateOf → ℕ → WorkOf → Decided → ProcessedOf
 reported z s epoch w d =
@@ -49,7 +49,7 @@ reported z s epoch w d =
       state = with_last d.state (found (record { epoch = epoch; era = era_of s }));
       answer = done
           (record {
-            batch = record { epoch = epoch; era = era_of s; change = d.change; keys = nodes_in d.state; params = d.state.params };
+            batch = batch_with epoch (era_of s) d.ruling (nodes_in d.state) d.state.params;
             faults = w.faults;
             due = foldl (owe_to z) w.due d.due;
             recipe = d.recipe;

@@ -19,10 +19,10 @@ use Rattle.change.specs.Change.{ChangeOf, node_change, encryption_schedule, none
 use Rattle.internal_contrib.specs.InternalContrib.{ContribOf}
 use Rattle.fault_log.specs.declared.Fault.{Fault}
 use Rattle.reference.specs.Reference.{PartRef, CandidateRef, RefState}
-use Rattle.reference.specs.Winner.{Wins, NonePast}
+use Rattle.reference.specs.Winner.{Carry, Wins, NonePast}
 use Rattle.reference.specs.Terms.{Ready, Unready}
 use Rattle.reference.specs.Step.{ref_contribs, is_candidate_ref, ref_winner, ref_decide, ref_row5, ref_row7, ref_steps, ref_batch}
-use Rattle.reference.proofs.WinnerLaws.{wins_first, none_first}
+use Rattle.reference.proofs.WinnerLaws.{carry_is, wins_first, none_first}
 use Rattle.reference.proofs.ReadyLaws.{ready_true, none_ready}
 
 -- the test of row 5
@@ -51,14 +51,14 @@ module _ (z : Sizes) (s : RefState) (inner : ℕ) (cs : List ContribOf) (fits : 
     nobody_now : NonePast (max_faulty (length t.nodes)) t.votes → ref_winner t ≡ nothing
     nobody_now h = none_first (max_faulty (length t.nodes)) t.votes h
 
-    -- "If ready, the candidate map takes effect, key generation ends and a new era, batch epoch + 1, begins; report `Complete`", whatever has won
+    -- "If ready, the candidate map takes effect, key generation ends and a new era, batch epoch + 1, begins; report `Complete`", whatever has won; 02, CR 7: nobody is listed, even if votes pass f
     pub ready_completes : (g : CandidateRef) → t.candidate ≡ found g → Ready g
         → ref_batch z s inner cs
         ≡ record {
           state = record { era = s.era + inner + 1; nodes = g.nodes; params = t.params; votes = []; candidate = nothing };
           answer =
               done (record {
-                batch = record { epoch = s.era + inner; era = s.era; change = complete (node_change g.nodes); keys = g.nodes; params = t.params };
+                batch = record { epoch = s.era + inner; era = s.era; change = complete (node_change g.nodes); keys = g.nodes; params = t.params; voters = [] };
                 faults = fs;
               });
         }
@@ -72,35 +72,38 @@ module _ (z : Sizes) (s : RefState) (inner : ℕ) (cs : List ContribOf) (fits : 
       unfolding ref_row7
       row_7 h = rw (open_to_7, committed, none_ready t.candidate unready, winner_now (node_change []) h)
 
+      -- 02, CR 7: the ids are those of "all voters then supporting" the winner, from the votes behind the batch's own and before a new era, in the order of the votes
       -- "if some change wins: equal to the candidate map, report `InProgress` and restart nothing"
       pub candidate_again : (n : Node) (ns : List Node) (ps : List PartRef) → Wins (max_faulty (length t.nodes)) t.votes (node_change (n ∷ ns)) → t.candidate ≡ found (record { nodes = n ∷ ns; parts = ps })
+          → (ids : List ℕ) → Carry (node_change (n ∷ ns)) t.votes ids
           → ref_batch z s inner cs
           ≡ record {
             state = record { era = t.era; nodes = t.nodes; params = t.params; votes = t.votes; candidate = t.candidate };
             answer =
                 done (record {
-                  batch = record { epoch = s.era + inner; era = s.era; change = in_progress (node_change (n ∷ ns)); keys = t.nodes; params = t.params };
+                  batch = record { epoch = s.era + inner; era = s.era; change = in_progress (node_change (n ∷ ns)); keys = t.nodes; params = t.params; voters = ids };
                   faults = fs;
                 });
           }
       unfolding ref_row7 ref_steps ref_decide
-      candidate_again n ns ps h e = rw (open_to_7, committed, none_ready t.candidate unready, winner_now (node_change (n ∷ ns)) h, e, map_refl (n ∷ ns))
+      candidate_again n ns ps h e ids k = rw (open_to_7, committed, none_ready t.candidate unready, winner_now (node_change (n ∷ ns)) h, e, map_refl (n ∷ ns), ← carry_is (node_change (n ∷ ns)) k)
 
       -- "another map, new era and fresh key generation, `InProgress`": the current map and the parameters stay
       pub map_begins : (n : Node) (ns : List Node) → Wins (max_faulty (length t.nodes)) t.votes (node_change (n ∷ ns))
           → ((g : CandidateRef) → t.candidate ≡ found g → g.nodes ≡ n ∷ ns → ⊥)
+          → (ids : List ℕ) → Carry (node_change (n ∷ ns)) t.votes ids
           → ref_batch z s inner cs
           ≡ record {
             state = record { era = s.era + inner + 1; nodes = t.nodes; params = t.params; votes = []; candidate = found (record { nodes = n ∷ ns; parts = [] }) };
             answer =
                 done (record {
-                  batch = record { epoch = s.era + inner; era = s.era; change = in_progress (node_change (n ∷ ns)); keys = t.nodes; params = t.params };
+                  batch = record { epoch = s.era + inner; era = s.era; change = in_progress (node_change (n ∷ ns)); keys = t.nodes; params = t.params; voters = ids };
                   faults = fs;
                 });
           }
       unfolding ref_row7 ref_steps ref_decide
-      map_begins n ns h k =
-          rw (open_to_7, committed, none_ready t.candidate unready, winner_now (node_change (n ∷ ns)) h, another t.candidate k)
+      map_begins n ns h k ids c =
+          rw (open_to_7, committed, none_ready t.candidate unready, winner_now (node_change (n ∷ ns)) h, another t.candidate k, ← carry_is (node_change (n ∷ ns)) c)
         where
           differs : (g : CandidateRef) (b : Bool) → same_nodes g.nodes (n ∷ ns) ≡ b → (g.nodes ≡ n ∷ ns → ⊥) → b ≡ false
           differs g true e k = absurd (k (map_true g.nodes (n ∷ ns) e))
@@ -112,6 +115,7 @@ module _ (z : Sizes) (s : RefState) (inner : ℕ) (cs : List ContribOf) (fits : 
 
       -- "a schedule, put into the parameters, new era, `Complete`, key generation kept": the other two parameters stay
       pub schedule_completes : (x : EncryptionSchedule) → Wins (max_faulty (length t.nodes)) t.votes (encryption_schedule x)
+          → (ids : List ℕ) → Carry (encryption_schedule x) t.votes ids
           → ref_batch z s inner cs
           ≡ record {
             state = record {
@@ -129,21 +133,22 @@ module _ (z : Sizes) (s : RefState) (inner : ℕ) (cs : List ContribOf) (fits : 
                     change = complete (encryption_schedule x);
                     keys = t.nodes;
                     params = record { max_future_epochs = t.params.max_future_epochs; subset_handling_strategy = t.params.subset_handling_strategy; encryption_schedule = x };
+                    voters = ids;
                   };
                   faults = fs;
                 });
           }
       unfolding ref_row7 ref_steps ref_decide
-      schedule_completes x h = rw (open_to_7, committed, none_ready t.candidate unready, winner_now (encryption_schedule x) h)
+      schedule_completes x h ids k = rw (open_to_7, committed, none_ready t.candidate unready, winner_now (encryption_schedule x) h, ← carry_is (encryption_schedule x) k)
 
-      -- "Otherwise report `None`": nothing but the votes and key messages has changed the state
+      -- "Otherwise report `None`", and nobody, even if there are votes: nothing but the votes and key messages has changed the state
       pub nothing_wins : NonePast (max_faulty (length t.nodes)) t.votes
           → ref_batch z s inner cs
           ≡ record {
             state = record { era = t.era; nodes = t.nodes; params = t.params; votes = t.votes; candidate = t.candidate };
             answer =
                 done (record {
-                  batch = record { epoch = s.era + inner; era = s.era; change = none; keys = t.nodes; params = t.params };
+                  batch = record { epoch = s.era + inner; era = s.era; change = none; keys = t.nodes; params = t.params; voters = [] };
                   faults = fs;
                 });
           }

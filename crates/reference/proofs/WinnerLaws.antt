@@ -10,16 +10,23 @@ use native.Mathlib.Nat.{zero-add, suc-add}
 use native.Mathlib.Numerals.{add-one}
 use native.Mathlib.Omega.{arith}
 use lib.Dec.{ltb}
-use lib.ListN.{length, take, drop, length-append}
+use lib.ListN.{length, take, drop, length-append, length-map}
 use lib.Seq.{take-append-add, drop-append_seam, append_snoc}
 use borrow.Author.Tests.{ltb-true, ltb-false, lt-ltb, le-ltb}
 use Rattle.lists.specs.Lists.{found, nothing, filter}
+use Rattle.lists.proofs.ListLaws.{false_true}
+use Rattle.bincode.specs.Stands.{Each}
 use Rattle.winner.specs.Winner.{support, winner_after, winner}
+use Rattle.winner.specs.Board.{Cast, supporters}
 use Rattle.winner.proofs.WinnerLaws.{winner_supported, winner_none}
 use Rattle.change.specs.Change.{ChangeOf, same_change}
 use Rattle.change.proofs.ChangeLaws.{change_true, change_refl}
 use Rattle.votes.specs.Votes.{SignedVoteOf}
-use Rattle.reference.specs.Winner.{choice_of, voters_for, passed, earlier, won_by, first_past, NonePast, start, next, Wins}
+use Rattle.reference.specs.Winner.{choice_of, votes_for, voters_for, ids_for, passed, earlier, won_by, first_past, NonePast, start, next, Carry, nobody, one, other, Wins}
+
+-- a vote as the engine's board takes it
+abbrev pub cast_ref : SignedVoteOf → Cast ChangeOf
+cast_ref v = record { voter = v.voter; choice = v.vote.change }
 
 -- voters for a change: nobody among nobody; a voter whose change it is makes one more, and no other does
 module _ (c : ChangeOf) where
@@ -49,6 +56,63 @@ module _ (c : ChangeOf) where
           → length (cond b (v ∷ filter (λ x. same_change (choice_of x) c) vs) (filter (λ x. same_change (choice_of x) c) vs)) ≡ cond b 1 0 + support same_change c (map choice_of vs)
       go true ih = rw ih (omega arith)
       go false ih = rw ih (omega arith)
+
+  -- 02, CR 7: the ids are those of the voters whose change it is, in the order of the votes
+  pub carry_is : {vs : List SignedVoteOf} {ids : List ℕ} → Carry c vs ids → ids_for c vs ≡ ids
+  unfolding ids_for filter
+  carry_is nobody = refl
+  carry_is (one v e k) = rw (e, change_refl c) (ap (λ (ns : List ℕ). v.voter ∷ ns) (carry_is k))
+  carry_is (other {vs = vs} v n k) = go (same_change (choice_of v) c) refl (carry_is k)
+    where
+      rest : List SignedVoteOf
+      rest = filter (λ x. same_change (choice_of x) c) vs
+
+      go : {ids : List ℕ} (b : Bool) → same_change (choice_of v) c ≡ b → map (λ x. x.voter) rest ≡ ids → map (λ x. x.voter) (cond b (v ∷ rest) rest) ≡ ids
+      go true e ih = absurd (n (change_true (choice_of v) c e))
+      go false e ih = ih
+
+  -- they ascend where the voters do
+  pub carry_ascends : {vs : List SignedVoteOf} {ids : List ℕ} (low : ℕ) → Each (λ (least : ℕ) (v : SignedVoteOf). v.voter + 1) (λ least v. least ≤ v.voter) low vs → Carry c vs ids
+      → Each (λ (least : ℕ) (id : ℕ). id + 1) (λ least id. least ≤ id) low ids
+  carry_ascends low a nobody = tt
+  carry_ascends low a (one v e k) = (a.0, carry_ascends (v.voter + 1) a.1 k)
+  carry_ascends low a (other {ids = ids} v n k) = let l = a.0 in lower ids (v.voter + 1) low (omega (arith, l)) (carry_ascends (v.voter + 1) a.1 k)
+    where
+      lower : (ids : List ℕ) (least low : ℕ) → low ≤ least → Each (λ (l : ℕ) (id : ℕ). id + 1) (λ l id. l ≤ id) least ids → Each (λ (l : ℕ) (id : ℕ). id + 1) (λ l id. l ≤ id) low ids
+      lower [] least low h s = tt
+      lower (id ∷ ids) least low h s = let l = s.0 in (omega (arith, h, l), s.1)
+
+  -- of any votes there is such a list
+  pub carry_all : (vs : List SignedVoteOf) → Carry c vs (ids_for c vs)
+  unfolding ids_for filter
+  carry_all [] = nobody
+  carry_all (v ∷ vs) = go (same_change (choice_of v) c) refl (carry_all vs)
+    where
+      rest : List SignedVoteOf
+      rest = filter (λ x. same_change (choice_of x) c) vs
+
+      go : (b : Bool) → same_change (choice_of v) c ≡ b → Carry c vs (map (λ x. x.voter) rest) → Carry c (v ∷ vs) (map (λ x. x.voter) (cond b (v ∷ rest) rest))
+      go true e k = one v (change_true (choice_of v) c e) k
+      go false e k = other v (λ q. false_true (sym e ∙ ap (λ (x : ChangeOf). same_change x c) q ∙ change_refl c)) k
+
+  -- there are as many ids as voters
+  pub ids_counted : (vs : List SignedVoteOf) → length (ids_for c vs) ≡ voters_for c vs
+  unfolding ids_for voters_for
+  ids_counted vs = length-map (votes_for c vs) (λ v. v.voter)
+
+  -- the engine lists the same
+  pub ids_are : (vs : List SignedVoteOf) → ids_for c vs ≡ supporters same_change c (map cast_ref vs)
+  unfolding ids_for filter supporters
+  ids_are [] = refl
+  ids_are (v ∷ vs) = go (same_change (choice_of v) c) (ids_are vs)
+    where
+      rest : List SignedVoteOf
+      rest = filter (λ x. same_change (choice_of x) c) vs
+
+      go : (b : Bool) → map (λ x. x.voter) rest ≡ supporters same_change c (map cast_ref vs)
+          → map (λ x. x.voter) (cond b (v ∷ rest) rest) ≡ cond b (v.voter ∷ supporters same_change c (map cast_ref vs)) (supporters same_change c (map cast_ref vs))
+      go true ih = ap (λ (ns : List ℕ). v.voter ∷ ns) ih
+      go false ih = ih
 
 module _ (f : ℕ) where
   -- the turn of a voter
@@ -100,10 +164,10 @@ module _ (f : ℕ) where
   -- one of the two holds of all votes
   data Settled (vs : List SignedVoteOf) : Type 0 where
     won : (c : ChangeOf) → Wins f vs c → Settled vs
-    nobody : NonePast f vs → Settled vs
+    unsettled : NonePast f vs → Settled vs
 
   settled : (taken : List SignedVoteOf) (rest : List SignedVoteOf) → NonePast f taken → Settled (taken ++ rest)
-  settled taken [] h = nobody (rw append-nil h)
+  settled taken [] h = unsettled (rw append-nil h)
   settled taken (v ∷ rest) h = go (ltb f (voters_for (choice_of v) (taken ++ (v ∷ [])))) refl (settled (taken ++ (v ∷ [])) rest)
     where
       go : (b : Bool) → ltb f (voters_for (choice_of v) (taken ++ (v ∷ []))) ≡ b → (NonePast f (taken ++ (v ∷ [])) → Settled (taken ++ (v ∷ []) ++ rest)) → Settled (taken ++ (v ∷ rest))
@@ -118,14 +182,14 @@ module _ (f : ℕ) where
     where
       go : Settled vs → Wins f vs c
       go (won d w) = let p = wins_first vs d w in let q : d ≡ c = cc in subst (Wins f vs) q w
-      go (nobody h) = let p = none_first vs h in absurd (let z : ◌≡◌ {A = ℕ} 0 1 = cc in let w : ⊥ = omega arith in w)
+      go (unsettled h) = let p = none_first vs h in absurd (let z : ◌≡◌ {A = ℕ} 0 1 = cc in let w : ⊥ = omega arith in w)
 
   pub first_none : (vs : List SignedVoteOf) → first_past f vs ≡ nothing → NonePast f vs
   first_none vs e = go (settled [] vs start)
     where
       go : Settled vs → NonePast f vs
       go (won d w) = let p = wins_first vs d w in absurd (let z : ◌≡◌ {A = ℕ} 0 1 = cc in let w : ⊥ = omega arith in w)
-      go (nobody h) = h
+      go (unsettled h) = h
 
   -- a change wins, or at no voter one has passed f: the two cover all votes
   pub wins_or_none : (vs : List SignedVoteOf) → ((c : ChangeOf) × Wins f vs c) ⊎ NonePast f vs
@@ -133,7 +197,7 @@ module _ (f : ℕ) where
     where
       go : Settled vs → ((c : ChangeOf) × Wins f vs c) ⊎ NonePast f vs
       go (won c w) = inl (c, w)
-      go (nobody h) = inr h
+      go (unsettled h) = inr h
 
   -- the engine takes the voters in the same order
   engine_turn : (taken : List SignedVoteOf) (v : SignedVoteOf) (rest : List SignedVoteOf)
@@ -161,7 +225,7 @@ module _ (f : ℕ) where
       go (won c w) =
           wins_first vs c w
           ∙ sym (rw w.taken (won_by_lem w.before w.voter w.behind (own w.before w.voter c w.choice w.passes) w.first ∙ ap found w.choice))
-      go (nobody h) = none_first vs h ∙ sym (rw append-nil at (engine_yet h []))
+      go (unsettled h) = none_first vs h ∙ sym (rw append-nil at (engine_yet h []))
 
   -- a winner has more than f voters
   pub winner_passes : (vs : List SignedVoteOf) (c : ChangeOf) → first_past f vs ≡ found c → f < voters_for c vs

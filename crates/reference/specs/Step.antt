@@ -16,14 +16,14 @@ use Rattle.votes.specs.Votes.{SignedVoteOf}
 use Rattle.sync_key_gen.specs.SyncKeyGen.{PartOf}
 use Rattle.key_gen_message.specs.KeyGenMessage.{KeyGenMessageOf, part, ack, SignedKeyGenMsgOf}
 use Rattle.internal_contrib.specs.InternalContrib.{ContribOf, read_batch}
-use Rattle.batch.specs.Batch.{BatchOf}
+use Rattle.batch.specs.Batch.{RulingOf, BatchOf, batch_with}
 use Rattle.fault_log.specs.declared.FaultKind.{FaultKind}
 use Rattle.fault_log.specs.declared.FaultKind.TheVariants.{InvalidCommittedVote, InvalidKeyGenMessageSignature, InvalidKeyGenMessageEra, UnexpectedKeyGenPart, UnexpectedKeyGenAck, SyncKeyGenPart, SyncKeyGenAck}
 use Rattle.fault_log.specs.declared.PartFault.TheVariants.{RowCount, MultipleParts}
 use Rattle.fault_log.specs.declared.AckFault.TheVariants.{ValueCount, MissingPart}
 use Rattle.fault_log.specs.declared.Fault.{Fault}
 use Rattle.reference.specs.Reference.{PartRef, CandidateRef, RefState}
-use Rattle.reference.specs.Winner.{first_past}
+use Rattle.reference.specs.Winner.{first_past, ids_for}
 
 -- a batch in the making: the state so far, and the faults in order of arising
 pub record RefWork : Type 0 where
@@ -152,17 +152,18 @@ ref_ready nothing = false
 abbrev pub new_era_ref : ℕ → List Node → Params → Found CandidateRef → RefState
 new_era_ref era ns p g = record { era = era; nodes = ns; params = p; votes = []; candidate = g }
 
+-- the state after the batch, and what the report tells: the change, and who carried it (02, CR 7)
 pub record RefDecided : Type 0 where
   pub state : RefState
-  pub change : ChangeStateOf
+  pub ruling : RulingOf
 
-abbrev pub decided_ref : RefState → ChangeStateOf → RefDecided
-decided_ref s c = record { state = s; change = c }
+abbrev pub decided_ref : RefState → ChangeStateOf → List ℕ → RefDecided
+decided_ref s c ids = record { state = s; ruling = record { change = c; voters = ids } }
 
--- if ready, the candidate map takes effect, key generation ends and a new era begins; report `Complete`
+-- if ready, the candidate map takes effect, key generation ends and a new era begins; report `Complete`, and nobody, whoever has voters
 abbrev pub ref_completed : ℕ → RefState → Found CandidateRef → RefDecided
-ref_completed era s (found g) = decided_ref (new_era_ref era g.nodes s.params nothing) (complete (node_change g.nodes))
-ref_completed era s nothing = decided_ref s none
+ref_completed era s (found g) = decided_ref (new_era_ref era g.nodes s.params nothing) (complete (node_change g.nodes)) []
+ref_completed era s nothing = decided_ref s none []
 
 -- Step 7. If some change wins: equal to the candidate map, report `InProgress` and restart nothing; another map, new era and fresh key generation, `InProgress`;
 -- a schedule, put into the parameters, new era, `Complete`, key generation kept.
@@ -173,14 +174,19 @@ is_candidate_ref nothing ns = false
 abbrev pub scheduled : Params → EncryptionSchedule → Params
 scheduled p x = record { max_future_epochs = p.max_future_epochs; subset_handling_strategy = p.subset_handling_strategy; encryption_schedule = x }
 
+-- 02, CR 7: listed are all voters then supporting the winning change: the votes are those that stand before the new era.
+abbrev pub ref_voters : RefState → ChangeOf → List ℕ
+ref_voters s c = ids_for c s.votes
+
 abbrev pub ref_elected : ℕ → RefState → Found ChangeOf → RefDecided
 ref_elected era s (found (node_change ns)) =
     cond (is_candidate_ref s.candidate ns)
-    (decided_ref s (in_progress (node_change ns)))
-    (decided_ref (new_era_ref era s.nodes s.params (found (record { nodes = ns; parts = [] }))) (in_progress (node_change ns)))
-ref_elected era s (found (encryption_schedule x)) = decided_ref (new_era_ref era s.nodes (scheduled s.params x) s.candidate) (complete (encryption_schedule x))
--- Step 8. Otherwise report `None`.
-ref_elected era s nothing = decided_ref s none
+    (decided_ref s (in_progress (node_change ns)) (ref_voters s (node_change ns)))
+    (decided_ref (new_era_ref era s.nodes s.params (found (record { nodes = ns; parts = [] }))) (in_progress (node_change ns)) (ref_voters s (node_change ns)))
+ref_elected era s (found (encryption_schedule x)) =
+    decided_ref (new_era_ref era s.nodes (scheduled s.params x) s.candidate) (complete (encryption_schedule x)) (ref_voters s (encryption_schedule x))
+-- Step 8. Otherwise report `None`, and nobody, even if there are votes.
+ref_elected era s nothing = decided_ref s none []
 
 -- a winner has more than f voters, f of the current map
 abbrev pub ref_winner : RefState → Found ChangeOf
@@ -215,12 +221,12 @@ pub record RefAnswer : Type 0 where
 abbrev pub denied_ref : RefState → ℕ → RefAnswer
 denied_ref s n = record { state = s; answer = refused n }
 
--- the report is epoch, era of the batch, change, map and parameters
+-- the report is epoch, era of the batch, change, map and parameters, and who carried the change
 abbrev pub reported_ref : RefState → ℕ → List Fault → RefDecided → RefAnswer
 reported_ref s epoch fs d =
     record {
       state = d.state;
-      answer = done (record { batch = record { epoch = epoch; era = s.era; change = d.change; keys = d.state.nodes; params = d.state.params }; faults = fs });
+      answer = done (record { batch = batch_with epoch s.era d.ruling d.state.nodes d.state.params; faults = fs });
     }
 
 -- steps 1 to 8; step 1: batch epoch = era + inner epoch

@@ -1,5 +1,5 @@
 -- 01: "A winner has more than f voters of the current map. Voters are taken in ascending order and counting stops at the first voter whose change passes f."
-use Rattle.std.specs.Prelude.{ℕ, zero, suc, ◌+◌, ◌≤◌, ◌<◌, ◌≡◌, List, [], ◌∷◌, ◌++◌, cond, length, take, drop, ltb}
+use Rattle.std.specs.Prelude.{ℕ, zero, suc, ◌+◌, ◌≤◌, ◌<◌, ◌≡◌, List, [], ◌∷◌, ◌++◌, map, cond, length, take, drop, ltb}
 use Rattle.lists.specs.Lists.{Found, found, nothing, filter}
 use Rattle.change.specs.Change.{ChangeOf, same_change}
 use Rattle.votes.specs.Votes.{SignedVoteOf}
@@ -7,9 +7,15 @@ use Rattle.votes.specs.Votes.{SignedVoteOf}
 abbrev pub choice_of : SignedVoteOf → ChangeOf
 choice_of v = v.vote.change
 
--- how many voters are for a change
+-- the votes for a change: how many voters are for it, and who they are (02, CR 7)
+abbrev pub votes_for : ChangeOf → List SignedVoteOf → List SignedVoteOf
+votes_for c vs = filter (λ v. same_change (choice_of v) c) vs
+
 unfoldable pub voters_for : ChangeOf → List SignedVoteOf → ℕ
-voters_for c vs = length (filter (λ v. same_change (choice_of v) c) vs)
+voters_for c vs = length (votes_for c vs)
+
+unfoldable pub ids_for : ChangeOf → List SignedVoteOf → List ℕ
+ids_for c vs = map (λ v. v.voter) (votes_for c vs)
 
 -- the change of the voter who comes next, if with that voter more than f of those taken are for it
 abbrev pub passed : ℕ → List SignedVoteOf → List SignedVoteOf → Found ChangeOf
@@ -33,6 +39,12 @@ first_past f vs = won_by f vs (length vs)
 pub data NonePast (f : ℕ) : List SignedVoteOf → Type 0 where
   start : NonePast f []
   next : {taken : List SignedVoteOf} → NonePast f taken → (v : SignedVoteOf) → voters_for v.vote.change (taken ++ (v ∷ [])) ≤ f → NonePast f (taken ++ (v ∷ []))
+
+-- 02, CR 7, "all voters then supporting it": the ids of those whose vote is for a change, in the order of the votes
+pub data Carry (c : ChangeOf) : List SignedVoteOf → List ℕ → Type 0 where
+  nobody : Carry c [] []
+  one : {vs : List SignedVoteOf} {ids : List ℕ} (v : SignedVoteOf) → v.vote.change ≡ c → Carry c vs ids → Carry c (v ∷ vs) (v.voter ∷ ids)
+  other : {vs : List SignedVoteOf} {ids : List ℕ} (v : SignedVoteOf) → (v.vote.change ≡ c → ⊥) → Carry c vs ids → Carry c (v ∷ vs) ids
 
 -- a change wins: at one of the voters it passes f, and at none before that one has a change passed f
 pub record Wins (f : ℕ) (vs : List SignedVoteOf) (c : ChangeOf) : Type 0 where

@@ -104,6 +104,11 @@ pub(crate) fn put_recipe(out: &mut String, r: &Recipe) -> Result<(), AllocError>
     }
 }
 
+// Ids, in the order of the list; `-` for none.
+pub(crate) fn put_ids(out: &mut String, ids: &[u32]) -> Result<(), AllocError> {
+    put_list(out, ",", ids.iter(), |out, id| write!(out, "{id}"))
+}
+
 // Committed votes by ascending voter, each as `VOTER:NUMBER:CHANGE`; `-` for none.
 pub(crate) fn put_votes(out: &mut String, votes: &[SignedVote]) -> Result<(), AllocError> {
     put_list(out, ",", votes.iter(), |out, x| {

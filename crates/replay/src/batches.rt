@@ -1,5 +1,5 @@
 // The calls that fill lent lists, made as a host makes them: the engine is lent the first places of the lists, as many as the line names, and faults and due items are read off them.
-use crate::answers::{put_due, put_faults, put_recipe};
+use crate::answers::{put_due, put_faults, put_ids, put_recipe};
 use crate::lent::{Lists, end_line};
 use crate::parse::{BatchCall, Join};
 use crate::text::hex_with;
@@ -10,7 +10,7 @@ use process_batch::Report;
 use recipe::Recipe;
 use std::alloc::AllocError;
 
-// A report: its epoch, era, change, map and params.
+// A report: its epoch, era, change, map and params; its voters stand at the end of the answer.
 fn put_batch(out: &mut String, b: Batch) -> Result<(), AllocError> {
     let alloc = *out.allocator();
     let change = hex_with(alloc, b.change)?;
@@ -39,13 +39,15 @@ fn put_made(out: &mut String, recipe: &Option<Recipe>) -> Result<(), AllocError>
     }
 }
 
-// What a batch that is not refused answers: the report, and beside it faults, due items and the recipe.
+// What a batch that is not refused answers: the report, and beside it faults, due items and the recipe; behind them the report's voters.
 fn put_report(out: &mut String, r: Report, lists: &Lists) -> Result<(), AllocError> {
     put_batch(out, r.batch)?;
     out.push_str(" faults ")?;
     put_faults(out, lists.ids.first(r.faults), lists.kinds.first(r.faults))?;
     put_due_items(out, lists, r.due)?;
-    put_made(out, &r.recipe)
+    put_made(out, &r.recipe)?;
+    out.push_str(" voters ")?;
+    put_ids(out, r.batch.voters.ids.as_slice())
 }
 
 // Says what a batch answers, looks at the places behind those filled, and clears the lists for the next call.

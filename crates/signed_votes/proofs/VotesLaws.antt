@@ -8,7 +8,7 @@ use native.Mathlib.Omega.{arith}
 use lib.ListN.{length}
 use lib.Dec.{ltb, eqb}
 use borrow.Author.Tests.{ltb-true, ltb-false, eqb-true, eqb-false}
-use Rattle.bincode.specs.Stands.{Each}
+use Rattle.bincode.specs.Stands.{Each, All}
 use Rattle.lists.specs.Lists.{Found, found, nothing, map_found, lookup, insert, has_key, insert_within}
 use Rattle.lists.proofs.SortedLaws.{map_lookup}
 use Rattle.votes.specs.declared.SignedVote.{SignedVote}
@@ -61,3 +61,24 @@ module _ {A : Type 0} (key : A → ℕ) where
       go true q = insert_ascends a xs s
       go false true = insert_ascends a xs s
       go false false = s
+
+-- what holds of each element holds of each after one is put in
+module _ {A : Type 0} (P : A → Type 0) (key : A → ℕ) (a : A) (p : P a) where
+  pub all_insert : (xs : List A) → All P xs → All P (insert key a xs)
+  unfolding insert
+  all_insert [] ps = (p, tt)
+  all_insert (x ∷ xs) ps = go (ltb (key x) (key a)) (eqb (key x) (key a)) (all_insert xs ps.1)
+    where
+      go : (b c : Bool) → All P (insert key a xs) → All P (cond b (x ∷ insert key a xs) (cond c (a ∷ xs) (a ∷ x ∷ xs)))
+      go true c qs = (ps.0, qs)
+      go false true qs = (p, ps.1)
+      go false false qs = (p, ps)
+
+  pub all_within : (limit : ℕ) (xs : List A) → All P xs → All P (insert_within key limit a xs)
+  unfolding insert_within
+  all_within limit xs ps = go (has_key key (key a) xs) (ltb (length xs) limit)
+    where
+      go : (b c : Bool) → All P (cond b (insert key a xs) (cond c (insert key a xs) xs))
+      go true c = all_insert xs ps
+      go false true = all_insert xs ps
+      go false false = ps

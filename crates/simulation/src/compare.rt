@@ -111,6 +111,7 @@ fn same_batch(a: Batch, b: Batch) -> bool {
         && same_bytes(a.change, b.change)
         && a.pub_keys == b.pub_keys
         && a.params == b.params
+        && a.voters.ids == b.voters.ids
 }
 
 // Whether a kind of fault, by its number, follows from a replica's own verdicts: on its row of a part, or its value of an ack.

@@ -9,6 +9,7 @@ use dynamic_honey_badger::{DynamicHoneyBadger, Handled, Voted};
 use fault_log::FaultKind;
 use process_output::Agreed;
 use std::alloc::{AllocError, Global};
+use voters::Voters;
 
 // The report is the first replica's of the last batch, where that was not refused.
 #[derive(Drop)]
@@ -125,10 +126,19 @@ impl Fleet {
         };
         let led = handle(self.alloc, first, 0, given)?;
         let network = network(first);
-        self.report = led.outcome.ok().map(|r| r.batch);
+        let report = led.outcome.ok().map(|r| r.batch);
+        let voters = report.map_or(Voters::empty(), |b| b.voters);
+        self.report = report;
         match self.follow_all(&led, given)? {
             Some((i, d)) => show::differ(rt, step, i, d),
-            None => show::agree(rt, step, led.outcome.err(), led.faults.len(), network),
+            None => show::agree(
+                rt,
+                step,
+                led.outcome.err(),
+                led.faults.len(),
+                voters,
+                network,
+            ),
         }
     }
 

@@ -1,9 +1,11 @@
 // The lines of a season.
 use crate::compare::Difference;
 use anyhow::Context;
+use array_list::ArrayList;
 use bincode::Refusal;
 use pub_key_map::PubKeyMap;
 use std::fmt;
+use voters::Voters;
 
 const OUTPUT: &str = "standard output";
 
@@ -16,14 +18,40 @@ pub struct Network {
 
 impl fmt::Display for Network {
     fn fmt<W: fmt::Write>(&self, f: &mut fmt::Formatter<W>) -> fmt::Result {
-        write!(f, " era {} roster ", self.era)?;
-        for (i, node) in self.map.nodes.as_slice().iter().enumerate() {
+        let mut roster = ArrayList::empty(0);
+        for node in self.map.nodes.as_slice() {
+            roster.push(node.id);
+        }
+        write!(f, " era {} roster {}", self.era, Ids(roster))
+    }
+}
+
+// Ids with commas between them.
+#[derive(Clone, Copy)]
+struct Ids(ArrayList<u32, { PubKeyMap::LIMIT }>);
+
+impl fmt::Display for Ids {
+    fn fmt<W: fmt::Write>(&self, f: &mut fmt::Formatter<W>) -> fmt::Result {
+        for (i, id) in self.0.as_slice().iter().enumerate() {
             if 0 < i {
                 f.write_str(",")?;
             }
-            write!(f, "{}", node.id)?;
+            write!(f, "{id}")?;
         }
         Ok(())
+    }
+}
+
+// Who carried a change, where a winner was taken.
+#[derive(Clone, Copy)]
+struct Carried(Voters);
+
+impl fmt::Display for Carried {
+    fn fmt<W: fmt::Write>(&self, f: &mut fmt::Formatter<W>) -> fmt::Result {
+        match self.0.ids.len() {
+            0 => Ok(()),
+            _ => write!(f, " voters {}", Ids(self.0.ids)),
+        }
     }
 }
 
@@ -53,18 +81,20 @@ impl fmt::Display for Faults {
     }
 }
 
-// All replicas answered the same: the refusal, and how many faults they all told.
+// All replicas answered the same: the refusal, how many faults they all told, and who carried the change.
 pub(crate) fn agree(
     rt: &impl Print,
     step: u64,
     refusal: Option<Refusal>,
     faults: usize,
+    voters: Voters,
     network: Network,
 ) -> anyhow::Result<()> {
     println!(rt;
-        "{step} agree{}{}{network}",
+        "{step} agree{}{}{}{network}",
         Refused(refusal),
-        Faults(faults)
+        Faults(faults),
+        Carried(voters)
     )
     .context(OUTPUT)
 }

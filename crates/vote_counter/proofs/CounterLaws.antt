@@ -14,7 +14,7 @@ use Rattle.winner.specs.Winner.{support}
 use Rattle.winner.proofs.WinnerLaws.{winner_supported, winner_none}
 use Rattle.winner.proofs.WinnerPlaces.{stops_first, place_chooses}
 use Rattle.votes.specs.Votes.{SignedVoteOf, no_signed}
-use Rattle.vote_counter.specs.VoteCounter.{CounterOf, compute_winner, winner_at}
+use Rattle.vote_counter.specs.VoteCounter.{CounterOf, compute_winner, winner_at, CarriedOf, carried_by, carried}
 use Rattle.vote_counter.specs.Answers.{choice_at}
 
 pub winner_more : (c : CounterOf) (ch : ChangeOf) → compute_winner c ≡ found ch → max_faulty (length c.nodes) < support same_change ch (map (λ v. v.vote.change) c.committed)
@@ -56,3 +56,21 @@ winner_chosen c = go (winner_at c) ∙ place_chooses same_change (max_faulty (le
     go : (r : Found ℕ) → map_found (choice_at c.committed) r ≡ map_found (λ i. get_or (choices c) i no_signed.vote.change) r
     go (found i) = ap found (sym (choice_is c i))
     go nothing = refl
+
+-- 02, CR 7: the change of the winner's answer is the winner
+pub carried_change : (c : CounterOf) → map_found (λ (w : CarriedOf). w.change) (carried c) ≡ compute_winner c
+unfolding carried
+carried_change c = go (compute_winner c)
+  where
+    go : (r : Found ChangeOf) → map_found (λ (w : CarriedOf). w.change) (map_found (carried_by c) r) ≡ r
+    go (found x) = refl
+    go nothing = refl
+
+-- the winner's answer is the change at that place, with all its voters; there is none where there is no place
+pub carried_at : (c : CounterOf) (i : ℕ) → winner_at c ≡ found i → carried c ≡ found (carried_by c (choice_at c.committed i))
+unfolding carried
+carried_at c i e = ap (map_found (carried_by c)) (sym (winner_chosen c) ∙ ap (map_found (choice_at c.committed)) e)
+
+pub carried_nowhere : (c : CounterOf) → winner_at c ≡ nothing → carried c ≡ nothing
+unfolding carried
+carried_nowhere c e = ap (map_found (carried_by c)) (sym (winner_chosen c) ∙ ap (map_found (choice_at c.committed)) e)

@@ -1,15 +1,15 @@
 -- With at most f committed votes nobody wins, so no winner need be looked for.
 -- Assumes nothing.
 use Prim.Native.Nat.{◌≤◌}
-use mathlib.Core.Path.{◌≡◌}
+use mathlib.Core.Path.{◌≡◌, ap}
 use native.Mathlib.Omega.{arith}
 use mathlib.Core.List.{map}
 use lib.ListN.{length, length-map}
-use Rattle.lists.specs.Lists.{nothing}
+use Rattle.lists.specs.Lists.{nothing, map_found}
 use Rattle.util.specs.MaxFaulty.{max_faulty}
 use Rattle.change.specs.Change.{same_change}
 use Rattle.winner.proofs.FewLaws.{few_nobody, few_nowhere}
-use Rattle.vote_counter.specs.VoteCounter.{CounterOf, compute_winner, winner_at}
+use Rattle.vote_counter.specs.VoteCounter.{CounterOf, compute_winner, winner_at, carried_by, carried}
 
 module _ (c : CounterOf) (few : length c.committed ≤ max_faulty (length c.nodes)) where
   pub few_votes : compute_winner c ≡ nothing
@@ -19,3 +19,7 @@ module _ (c : CounterOf) (few : length c.committed ≤ max_faulty (length c.node
   pub few_places : winner_at c ≡ nothing
   unfolding winner_at
   few_places = few_nowhere same_change (max_faulty (length c.nodes)) (map (λ v. v.vote.change) c.committed) (omega (arith, length-map c.committed (λ v. v.vote.change)))
+
+  pub few_carried : carried c ≡ nothing
+  unfolding carried
+  few_carried = ap (map_found (carried_by c)) few_votes

@@ -1,5 +1,8 @@
 pub mod PendingTurns
 pub mod WinnerTurns
+pub mod CarriedTurns
+pub mod MemberLaws
+pub mod CarriedLaws
 pub mod CounterLaws
 pub mod PageLaws
 pub mod FewLaws

@@ -19,7 +19,7 @@ use Rattle.signed_votes.specs.SignedVotes.{num_of}
 use Rattle.fault_log.specs.declared.FaultKind.TheVariants.{InvalidCommittedVote}
 use Rattle.vote_counter.specs.VoteCounter.{CounterOf, at_or_below, obsolete, valid_vote, VoteEffect, stored, nothing_new, fault, vote_effect, committed_by, after_committed, add_committed}
 use Rattle.vote_counter.specs.NumberFirst.{number_first, added_number_first}
-use Rattle.vote_counter.proofs.PageLaws.{AtOrBelow, old_obsolete, signed_valid, unsigned_not}
+use Rattle.vote_counter.proofs.PageLaws.{AtOrBelow, old_obsolete, unsigned_not, invalid_unsigned, either_way}
 
 -- the votes of which the request speaks: "an old number with a wrong era", "an old number with a bad signature"
 pub record OldAndWrong (era : ℕ) (ns : List Node) (vs : List SignedVoteOf) (v : SignedVoteOf) : Type 0 where
@@ -35,19 +35,12 @@ obsolete_old vs v e = go (lookup (λ (x : SignedVoteOf). x.voter) vs v.voter) re
     go (found old) q e = (old, q, leb-true v.vote.num old.vote.num e)
     go nothing q e = absurd (false_true e)
 
-invalid_unsigned : (ns : List Node) (v : SignedVoteOf) → valid_vote ns v ≡ false → key_of ns v.voter ≡ found v.sig → ⊥
-invalid_unsigned ns v e q = false_true (sym e ∙ signed_valid ns v q)
-
 -- one vote
 module _ (era : ℕ) (ns : List Node) (vs : List SignedVoteOf) (v : SignedVoteOf) where
   -- old and wrong: a fault now, nothing then
   pub differ_there : OldAndWrong era ns vs v → (vote_effect era ns vs v ≡ fault InvalidCommittedVote) × (number_first era ns vs v ≡ nothing_new)
   unfolding vote_effect number_first
-  differ_there h = (⊎_elim (λ n. rw (ne_eqb v.vote.era era n)) (λ n. rw (unsigned_not ns v n) (go (eqb v.vote.era era))) h.wrong, rw (old_obsolete vs v h.old))
-    where
-      go : (b : Bool) → cond b (fault InvalidCommittedVote) (fault InvalidCommittedVote) ≡ fault InvalidCommittedVote
-      go true = refl
-      go false = refl
+  differ_there h = (⊎_elim (λ n. rw (ne_eqb v.vote.era era n)) (λ n. rw (unsigned_not ns v n, either_way (eqb v.vote.era era) (fault InvalidCommittedVote))) h.wrong, rw (old_obsolete vs v h.old))
 
   -- where they are not the same, it is such a vote; so of any other vote the two make the same
   pub same_or_there : (vote_effect era ns vs v ≡ number_first era ns vs v) ⊎ OldAndWrong era ns vs v

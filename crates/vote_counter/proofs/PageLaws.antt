@@ -1,13 +1,14 @@
 -- Single sentences of the scope document, said of the vote counter: a vote of a batch, a received one, an own one, and those handed out.
 -- Assumes nothing.
 use Prim.Native.Nat.{ℕ, ◌+◌, ◌≤◌, ◌<◌}
-use mathlib.Core.Path.{◌≡◌, refl, ap}
+use mathlib.Core.Path.{◌≡◌, refl, sym, ap, ◌∙◌}
 use mathlib.Core.List.{List, [], ◌∷◌, ◌++◌}
 use mathlib.Core.Bool.{Bool, true, false, cond}
 use native.Mathlib.Omega.{arith}
 use lib.Dec.{eqb}
 use lib.ListN.{length}
 use borrow.Author.Tests.{le-leb, lt-leb, eq-eqb, ne_eqb}
+use Rattle.lists.proofs.ListLaws.{false_true}
 use Rattle.lists.proofs.PlaceLaws.{at_between}
 use Rattle.lists.specs.Lists.{Found, found, nothing, at_place, map_found, lookup, insert_within, takes_place, filter}
 use Rattle.bincode.specs.Sizes.{Sizes}
@@ -19,7 +20,7 @@ use Rattle.votes.specs.Votes.{SignedVoteOf}
 use Rattle.signed_votes.specs.SignedVotes.{num_of}
 use Rattle.board.specs.Board.{worked_out}
 use Rattle.fault_log.specs.declared.FaultKind.TheVariants.{InvalidVoteSignature, InvalidCommittedVote}
-use Rattle.vote_counter.specs.VoteCounter.{CounterOf, at_or_below, obsolete, is_key, valid_vote, stored, nothing_new, fault, vote_effect, pending_effect, after_committed, add_pending, add_committed, sign_vote_for, pending_votes}
+use Rattle.vote_counter.specs.VoteCounter.{CounterOf, at_or_below, obsolete, is_key, valid_vote, VoteEffect, stored, nothing_new, fault, vote_effect, pending_effect, add_pending, add_committed, sign_vote_for, pending_votes}
 
 -- a voter's vote among some
 abbrev vote_of : List SignedVoteOf → ℕ → Found SignedVoteOf
@@ -61,6 +62,14 @@ unsigned_not ns v h = go (key_of ns v.voter) h
     go (found key) h = ne_eqb key v.sig (λ e. h (ap found e))
     go nothing h = refl
 
+pub invalid_unsigned : (ns : List Node) (v : SignedVoteOf) → valid_vote ns v ≡ false → key_of ns v.voter ≡ found v.sig → ⊥
+invalid_unsigned ns v e q = false_true (sym e ∙ signed_valid ns v q)
+
+-- a test between two that are one
+pub either_way : (b : Bool) (e : VoteEffect) → cond b e e ≡ e
+either_way true e = refl
+either_way false e = refl
+
 module _ (z : Sizes) (c : CounterOf) (v : SignedVoteOf) where
   -- 02, CR 6: "the order of checks on a committed vote becomes era, signature, number": a wrong era is `InvalidCommittedVote`, whatever signature and number are
   pub committed_era : (v.vote.era ≡ c.era → ⊥) → add_committed z c v ≡ record { counter = c; effect = fault InvalidCommittedVote }
@@ -70,11 +79,7 @@ module _ (z : Sizes) (c : CounterOf) (v : SignedVoteOf) where
   -- a wrong signature is, whatever era and number are
   pub committed_signature : (key_of c.nodes v.voter ≡ found v.sig → ⊥) → add_committed z c v ≡ record { counter = c; effect = fault InvalidCommittedVote }
   unfolding add_committed vote_effect
-  committed_signature h = rw (unsigned_not c.nodes v h) (go (eqb v.vote.era c.era))
-    where
-      go : (b : Bool) → after_committed z c v (cond b (fault InvalidCommittedVote) (fault InvalidCommittedVote)) ≡ record { counter = c; effect = fault InvalidCommittedVote }
-      go true = refl
-      go false = refl
+  committed_signature h = rw (unsigned_not c.nodes v h, either_way (eqb v.vote.era c.era) (fault InvalidCommittedVote))
 
   module _ (now : v.vote.era ≡ c.era) (signed : key_of c.nodes v.voter ≡ found v.sig) where
     -- "An old number on a valid vote still does nothing"

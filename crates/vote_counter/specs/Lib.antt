@@ -1,4 +1,5 @@
 pub mod VoteCounter
 pub mod Answers
 pub mod Calls
+pub mod Carried
 pub mod NumberFirst

@@ -12,8 +12,9 @@ use Rattle.change.specs.Change.{ChangeOf, same_change}
 use Rattle.votes.specs.Votes.{SignedVoteOf}
 use Rattle.signed_votes.specs.SignedVotes.{voter_of, num_of, votes_of, no_votes}
 use Rattle.winner.specs.Winner.{winner, winner_place}
+use Rattle.winner.specs.Board.{supporters}
 use Rattle.board.specs.declared.BoardRow.{BoardRow}
-use Rattle.board.specs.Board.{rows_of, no_board, worked_out, StandingOf, standing_at}
+use Rattle.board.specs.Board.{rows_of, no_board, cast_of, worked_out, StandingOf, standing_at}
 use Rattle.fault_log.specs.declared.FaultKind.{FaultKind}
 use Rattle.fault_log.specs.declared.FaultKind.TheVariants.{InvalidVoteSignature, InvalidCommittedVote}
 use Rattle.vote_counter.specs.declared.VoteCounter.{VoteCounter}
@@ -150,6 +151,22 @@ compute_winner c = winner same_change (max_faulty (length c.nodes)) (map (λ v. 
 -- the place of the winning voter among them: that at which counting stops, not another that chose the same
 unfoldable pub winner_at : CounterOf → Found ℕ
 winner_at c = winner_place same_change (max_faulty (length c.nodes)) (map (λ v. v.vote.change) c.committed)
+
+-- 02, CR 7: "all voters then supporting it": those whose stored vote is for a change, of earlier batches of the era too, in the order of the votes, so by ascending id
+unfoldable pub supporters_of : List SignedVoteOf → ChangeOf → List ℕ
+supporters_of vs x = supporters same_change x (map cast_of vs)
+
+-- a change that has won, and the voters who carried it
+pub record CarriedOf : Type 0 where
+  pub change : ChangeOf
+  pub voters : List ℕ
+
+abbrev pub carried_by : CounterOf → ChangeOf → CarriedOf
+carried_by c x = record { change = x; voters = supporters_of c.committed x }
+
+-- the winner's answer, nothing where nobody wins
+unfoldable pub carried : CounterOf → Found CarriedOf
+carried c = map_found (carried_by c) (compute_winner c)
 
 -- 02, CR 3: the board by place, 0 first: the rows that the counter holds, each with the change that its voter's committed vote is for
 unfoldable pub board_row : CounterOf → ℕ → Found StandingOf

@@ -10,10 +10,11 @@ ghost use Rattle.network_info.specs.NetworkInfo.{key_of};
 ghost use Rattle.change.specs.Change.{change_of};
 ghost use Rattle.votes.specs.Votes.{signed_of};
 ghost use Rattle.signed_votes.specs.SignedVotes.{votes_of};
+ghost use Rattle.voters.specs.Voters.{ids_of};
 ghost use Rattle.board.specs.Board.{said_standing};
 ghost use Rattle.vote_counter.specs.VoteCounter.{new_held, counter_of, with_committed, board_after, board_row, obsolete, is_key, commit_vote, add_pending, add_committed};
-ghost use Rattle.vote_counter.specs.VoteCounter.{signed_with, sign_vote_for, pending_votes, compute_winner, winner_at};
-ghost use Rattle.vote_counter.specs.Answers.{added_of, committed_of, signed_answer, SignRefusedKeeps, choice_at};
+ghost use Rattle.vote_counter.specs.VoteCounter.{signed_with, sign_vote_for, pending_votes, winner_at, supporters_of, carried};
+ghost use Rattle.vote_counter.specs.Answers.{added_of, committed_of, signed_answer, SignRefusedKeeps, carried_of};
 
 use bincode::Refusal;
 use board::{Board, Standing};
@@ -21,6 +22,7 @@ use change::Change;
 use fault_log::FaultKind;
 use pub_key_map::PubKeyMap;
 use signed_votes::SignedVotes;
+use voters::Voters;
 use votes::{SignedVote, Vote};
 
 #[derive(Clone, Copy)]
@@ -63,6 +65,13 @@ pub struct VoteSigned {
     pub outcome: Result<SignedVote, Refusal>,
 }
 
+// The winner: the place of the voter at whom counting stops, and all voters whose vote is for that voter's change.
+#[derive(Clone, Copy)]
+pub struct Winner {
+    pub place: usize,
+    pub voters: Voters,
+}
+
 // Whether a vote is numbered at or below its voter's stored one.
 #[tactic(auto, using(crate::proofs::PendingTurns::at_or_below_some), unfolding(crate::specs::VoteCounter::obsolete))]
 fn is_obsolete(votes: SignedVotes, x: SignedVote) -> bool
@@ -102,6 +111,19 @@ pub fn commit_vote(votes: SignedVotes, era: u64, map: PubKeyMap, x: SignedVote) 
         taken,
         outcome,
     }
+}
+
+// All voters whose vote is for a change, in the order of the votes: so by ascending id.
+pub fn supporters_of(votes: SignedVotes, change: Change) -> Voters
+    ensures { ids_of result ≡ supporters_of (votes_of votes) (change_of change) }
+{
+    let mut voters = Voters::empty();
+    for x in votes.votes.as_slice() {
+        if x.is_for(change) {
+            voters.add(x.voter);
+        }
+    }
+    voters
 }
 
 impl VoteCounter {
@@ -239,10 +261,9 @@ impl VoteCounter {
     }
 
     // The first voter, by ascending id, whose change more than f voters up to there have chosen; its place is one of the votes.
-    pub fn compute_winner(self) -> Option<usize>
-        ensures { (map_found (choice_at (votes_of self.committed)) (option_as_found (λ (x : ℕ). x) result) ≡ compute_winner (counter_of self))
-            × ((i : ℕ) → result ≡ Some i → i < length (votes_of self.committed))
-            × (option_as_found (λ (x : ℕ). x) result ≡ winner_at (counter_of self)) }
+    fn winning_place(&self) -> Option<usize>
+        ensures { (option_as_found (λ (x : ℕ). x) result ≡ winner_at (counter_of self.now))
+            × ((i : ℕ) → result ≡ Some i → i < length (votes_of self.now.committed)) }
     {
         let f = network_info::num_faulty(self.pub_keys);
         let committed = self.committed.votes.as_slice();
@@ -261,5 +282,19 @@ impl VoteCounter {
             }
         }
         won
+    }
+
+    // Who has won, told by the place of a vote for the winning change, with all who carried it: also those behind that place, and those of earlier batches.
+    pub fn compute_winner(&self) -> Option<Winner>
+        ensures { (option_as_found (carried_of (votes_of self.now.committed)) result ≡ carried (counter_of self.now))
+            × (option_as_found (λ (w : Winner). w.place) result ≡ winner_at (counter_of self.now))
+            × ((w : Winner) → result ≡ Some w → w.place < length (votes_of self.now.committed)) }
+    {
+        let place = self.winning_place()?;
+        let change = self.committed.votes.as_slice()[place].vote.change;
+        Some(Winner {
+            place,
+            voters: supporters_of(self.committed, change),
+        })
     }
 }

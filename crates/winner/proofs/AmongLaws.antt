@@ -1,16 +1,17 @@
--- What is one of a list, what holds of each of a list, and the lowest of some numbers.
+-- What is one of a list, what holds of each of a list, how many numbers can be of one, and the lowest of some numbers.
 -- Assumes nothing.
-use Prim.Native.Nat.{ℕ, ◌≤◌, min}
-use mathlib.Core.Path.{◌≡◌, refl, sym, subst, ◌∙◌}
+use Prim.Native.Nat.{ℕ, suc, ◌≤◌, min}
+use mathlib.Core.Path.{◌≡◌, refl, sym, ap, subst, ◌∙◌}
 use mathlib.Core.List.{List, [], ◌∷◌, map}
-use mathlib.Core.Bool.{Bool, true, false}
+use mathlib.Core.Bool.{Bool, true, false, cond}
 use mathlib.Core.Logic.{◌⊎◌, inl, inr, ⊎_elim}
 use native.Mathlib.Omega.{arith}
-use lib.Dec.{ltb}
-use borrow.Author.Tests.{ltb-true, ltb-false}
+use lib.Dec.{ltb, eqb}
+use lib.ListN.{length}
+use borrow.Author.Tests.{ltb-true, ltb-false, eqb-true, eqb-false}
 use Rattle.bincode.specs.Stands.{All}
 use Rattle.winner.specs.Board.{least_with}
-use Rattle.winner.specs.BoardTerms.{Among, Lowest}
+use Rattle.winner.specs.BoardTerms.{Among, Unrepeated, Lowest}
 
 module _ {A : Type 0} (P : A → Type 0) where
   -- what holds of each holds of one of them
@@ -60,3 +61,36 @@ lowest_one n m ns l k =
     let a = all_one (λ (z : ℕ). n ≤ z) ns l.1 m k.0 in
     let b = all_one (λ (z : ℕ). m ≤ z) ns k.1 n l.0 in
     omega arith
+
+-- a list without the first n
+without : ℕ → List ℕ → List ℕ
+without n [] = []
+without n (m ∷ ms) = cond (eqb m n) ms (m ∷ without n ms)
+
+without_shorter : (n : ℕ) (ms : List ℕ) → Among n ms → length ms ≡ suc (length (without n ms))
+unfolding without
+without_shorter n [] a = absurd a
+without_shorter n (m ∷ ms) a = go (eqb m n) refl a (without_shorter n ms)
+  where
+    go : (b : Bool) → eqb m n ≡ b → (n ≡ m) ⊎ Among n ms → (Among n ms → length ms ≡ suc (length (without n ms))) → suc (length ms) ≡ suc (length (cond b ms (m ∷ without n ms)))
+    go true e a ih = refl
+    go false e a ih = ap suc (ih (⊎_elim (λ (q : n ≡ m). absurd (eqb-false m n e (sym q))) (λ (k : Among n ms). k) a))
+
+-- another number stays
+without_keeps : (n k : ℕ) (ms : List ℕ) → (k ≡ n → ⊥) → Among k ms → Among k (without n ms)
+unfolding without
+without_keeps n k [] other a = a
+without_keeps n k (m ∷ ms) other a = go (eqb m n) refl a (without_keeps n k ms other)
+  where
+    go : (b : Bool) → eqb m n ≡ b → (k ≡ m) ⊎ Among k ms → (Among k ms → Among k (without n ms)) → Among k (cond b ms (m ∷ without n ms))
+    go true e a ih = ⊎_elim (λ (q : k ≡ m). absurd (other (q ∙ eqb-true m n e))) (λ (r : Among k ms). r) a
+    go false e a ih = ⊎_elim (λ (q : k ≡ m). inl q) (λ (r : Among k ms). inr (ih r)) a
+
+-- numbers that do not stand twice, each of them one of a list, are no more than the list has
+pub few_among : (ns ms : List ℕ) → Unrepeated ns → All (λ (n : ℕ). Among n ms) ns → length ns ≤ length ms
+few_among [] ms u a = omega arith
+few_among (n ∷ ns) ms u a = omega (arith, without_shorter n ms a.0, few_among ns (without n ms) u.1 (rest ns u.0 a.1))
+  where
+    rest : (ks : List ℕ) → (Among n ks → ⊥) → All (λ (k : ℕ). Among k ms) ks → All (λ (k : ℕ). Among k (without n ms)) ks
+    rest [] none a = tt
+    rest (k ∷ ks) none a = (without_keeps n k ms (λ (q : k ≡ n). none (inl (sym q))) a.0, rest ks (λ m. none (inr m)) a.1)

@@ -12,6 +12,7 @@ use lib.Seq.{take-suc, drop-cons, split_at}
 use Rattle.lists.proofs.ListLaws.{rest_none}
 use Rattle.winner.specs.Winner.{support}
 use Rattle.winner.specs.Board.{Cast, choices, least_with, supporters, lowest, first_choices}
+use Rattle.winner.proofs.SupporterLaws.{supporters_append, next_supporter}
 
 -- one number more
 least_more : (n : ℕ) (ns : List ℕ) (m : ℕ) → least_with n (ns ++ (m ∷ [])) ≡ min (least_with n ns) m
@@ -19,16 +20,6 @@ least_more n [] m = refl
 least_more n (k ∷ ns) m = least_more (min n k) ns m
 
 module _ {A : Type 0} (eq : A → A → Bool) where
-  supporters_append : (x : A) (vs ws : List (Cast A)) → supporters eq x (vs ++ ws) ≡ supporters eq x vs ++ supporters eq x ws
-  unfolding supporters
-  supporters_append x [] ws = refl
-  supporters_append x (v ∷ vs) ws = go (eq v.choice x) (supporters_append x vs ws)
-    where
-      go : (b : Bool) → supporters eq x (vs ++ ws) ≡ supporters eq x vs ++ supporters eq x ws
-          → cond b (v.voter ∷ supporters eq x (vs ++ ws)) (supporters eq x (vs ++ ws)) ≡ cond b (v.voter ∷ supporters eq x vs) (supporters eq x vs) ++ supporters eq x ws
-      go true e = ap (λ (ns : List ℕ). v.voter ∷ ns) e
-      go false e = e
-
   -- a choice that nobody has, has no voters
   pub none_supports : (x : A) (vs : List (Cast A)) → support eq x (choices vs) ≡ 0 → supporters eq x vs ≡ []
   unfolding support supporters
@@ -41,15 +32,11 @@ module _ {A : Type 0} (eq : A → A → Bool) where
 
   -- one vote more: a voter of the choice may be the lowest, another changes nothing
   module _ (cs : List (Cast A)) (x : A) (own : ℕ) (z : Cast A) (j : ℕ) (l : j < length cs) where
-    next_vote : supporters eq x (take (j + 1) cs) ≡ supporters eq x (take j cs) ++ cond (eq (get_or cs j z).choice x) ((get_or cs j z).voter ∷ []) []
-    unfolding supporters
-    next_vote = rw (add-one, take-suc cs j z l, supporters_append x (take j cs) (get_or cs j z ∷ []))
-
     pub lowest_yes : eq (get_or cs j z).choice x ≡ true → least_with own (supporters eq x (take (j + 1) cs)) ≡ min (least_with own (supporters eq x (take j cs))) (get_or cs j z).voter
-    lowest_yes e = ap (least_with own) (rw e at next_vote) ∙ least_more own (supporters eq x (take j cs)) (get_or cs j z).voter
+    lowest_yes e = ap (least_with own) (rw e at (next_supporter eq x cs j l z)) ∙ least_more own (supporters eq x (take j cs)) (get_or cs j z).voter
 
     pub lowest_no : eq (get_or cs j z).choice x ≡ false → least_with own (supporters eq x (take (j + 1) cs)) ≡ least_with own (supporters eq x (take j cs))
-    lowest_no e = ap (least_with own) ((rw e at next_vote) ∙ append-nil (supporters eq x (take j cs)))
+    lowest_no e = ap (least_with own) ((rw e at (next_supporter eq x cs j l z)) ∙ append-nil (supporters eq x (take j cs)))
 
   -- where nobody before the vote at a place has its choice, its voter is the first to be compared
   pub lowest_own : (cs : List (Cast A)) (x : A) (z : Cast A) (i : ℕ) → i < length cs → eq (get_or cs i z).choice x ≡ true → support eq x (choices (take i cs)) ≡ 0
@@ -59,7 +46,7 @@ module _ {A : Type 0} (eq : A → A → Bool) where
       let own = get_or cs i z in
       let rest = supporters eq x (drop (suc i) cs) in
       let all : supporters eq x cs ≡ own.voter ∷ rest
-      = ap (supporters eq x) (split_at cs i z l) ∙ supporters_append x (take i cs) (own ∷ drop (suc i) cs) ∙ rw (none_supports x (take i cs) n, e) in
+      = ap (supporters eq x) (split_at cs i z l) ∙ supporters_append eq x (take i cs) (own ∷ drop (suc i) cs) ∙ rw (none_supports x (take i cs) n, e) in
       let same : min own.voter own.voter ≡ own.voter = omega arith in
       rw all (ap (λ (n : ℕ). least_with n rest) same)
 

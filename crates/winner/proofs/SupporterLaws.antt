@@ -2,14 +2,17 @@
 -- Assumes nothing.
 use Prim.Native.Nat.{ℕ, ◌+◌, ◌<◌}
 use mathlib.Core.Path.{◌≡◌, refl, sym, ap, ◌∙◌}
-use mathlib.Core.List.{List, [], ◌∷◌}
+use mathlib.Core.List.{List, [], ◌∷◌, ◌++◌}
 use mathlib.Core.Bool.{Bool, true, false, cond}
 use mathlib.Core.Logic.{◌⊎◌, inl, inr, ⊎_elim}
+use native.Mathlib.Numerals.{add-one}
 use native.Mathlib.Omega.{arith}
 use lib.Dec.{eqb}
-use lib.ListN.{length}
+use lib.ListN.{length, take, get_or}
+use lib.Seq.{take-suc}
 use borrow.Author.Tests.{eqb-true, eqb-false}
 use Rattle.lists.specs.Lists.{Found, found, nothing, lookup}
+use Rattle.lists.proofs.ListLaws.{false_true, found_same, not_found}
 use Rattle.winner.specs.Winner.{support}
 use Rattle.winner.specs.Board.{Cast, choices, voters, least, supporters, lowest}
 use Rattle.winner.specs.BoardTerms.{Among, Unrepeated, Lowest}
@@ -25,6 +28,23 @@ choice_in x (found v) = v.choice
 choice_in x nothing = x
 
 module _ {A : Type 0} (eq : A → A → Bool) where
+  -- the voters of a choice, in two parts of a list
+  pub supporters_append : (x : A) (vs ws : List (Cast A)) → supporters eq x (vs ++ ws) ≡ supporters eq x vs ++ supporters eq x ws
+  unfolding supporters
+  supporters_append x [] ws = refl
+  supporters_append x (v ∷ vs) ws = go (eq v.choice x) (supporters_append x vs ws)
+    where
+      go : (b : Bool) → supporters eq x (vs ++ ws) ≡ supporters eq x vs ++ supporters eq x ws
+          → cond b (v.voter ∷ supporters eq x (vs ++ ws)) (supporters eq x (vs ++ ws)) ≡ cond b (v.voter ∷ supporters eq x vs) (supporters eq x vs) ++ supporters eq x ws
+      go true e = ap (λ (ns : List ℕ). v.voter ∷ ns) e
+      go false e = e
+
+  -- one vote more: its voter comes behind the others, where it is for the choice
+  pub next_supporter : (x : A) (vs : List (Cast A)) (j : ℕ) → j < length vs → (z : Cast A)
+      → supporters eq x (take (j + 1) vs) ≡ supporters eq x (take j vs) ++ cond (eq (get_or vs j z).choice x) ((get_or vs j z).voter ∷ []) []
+  unfolding supporters
+  next_supporter x vs j l z = rw (add-one, take-suc vs j z l, supporters_append x (take j vs) (get_or vs j z ∷ []))
+
   -- a choice has as many voters as it has support
   pub supporters_counted : (x : A) (vs : List (Cast A)) → length (supporters eq x vs) ≡ support eq x (choices vs)
   unfolding supporters support
@@ -75,3 +95,18 @@ module _ {A : Type 0} (eq : A → A → Bool) where
     -- one voter has one choice
     pub one_choice : (n : ℕ) (x y : A) (vs : List (Cast A)) → Unrepeated (voters vs) → Among n (supporters eq x vs) → Among n (supporters eq y vs) → x ≡ y
     one_choice n x y vs u m k = ap (λ (r : Found (Cast A)). choice_in x r) (sym (supporter_cast n x vs u m) ∙ supporter_cast n y vs u k)
+
+  -- where every choice is equal to itself, a voter whose vote is for a choice is one of its voters
+  module _ (eq-refl : (x : A) → eq x x ≡ true) where
+    pub cast_supporter : (n : ℕ) (v : Cast A) (vs : List (Cast A)) → lookup (λ (c : Cast A). c.voter) vs n ≡ found v → Among n (supporters eq v.choice vs)
+    unfolding supporters lookup
+    cast_supporter n v [] e = absurd (not_found e)
+    cast_supporter n v (w ∷ vs) e = go (eqb w.voter n) refl (eq w.choice v.choice) refl e (cast_supporter n v vs)
+      where
+        go : (b : Bool) → eqb w.voter n ≡ b → (c : Bool) → eq w.choice v.choice ≡ c → cond b (found w) (lookup (λ (c : Cast A). c.voter) vs n) ≡ found v
+            → (lookup (λ (c : Cast A). c.voter) vs n ≡ found v → Among n (supporters eq v.choice vs))
+            → Among n (cond c (w.voter ∷ supporters eq v.choice vs) (supporters eq v.choice vs))
+        go true t true s e ih = inl (sym (eqb-true w.voter n t))
+        go true t false s e ih = absurd (false_true (sym s ∙ ap (λ (c : Cast A). eq c.choice v.choice) (found_same e) ∙ eq-refl v.choice))
+        go false t true s e ih = inr (ih e)
+        go false t false s e ih = ih e

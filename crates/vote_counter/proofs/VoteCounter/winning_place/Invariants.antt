@@ -7,7 +7,7 @@ use Rattle.change.specs.Change.{ChangeOf, change_of, same_change}
 use Rattle.votes.specs.declared.SignedVote.{SignedVote}
 use Rattle.votes.specs.Votes.{signed_of}
 use Rattle.winner.specs.Winner.{support, place_after, winner_place}
-use Rattle.vote_counter.proofs.VoteCounter.compute_winner.Given as goal
+use Rattle.vote_counter.proofs.VoteCounter.winning_place.Given as goal
 
 -- what the voters have chosen
 abbrev pub choices : List SignedVote → List ChangeOf
