@@ -265,13 +265,13 @@ def wins(s):
 
 
 def last_number(s):
-    """The last number is stored, by the highest voter: every number of his is old from then on, that one too, until the others begin an era."""
-    if len(s.map) == 1:
+    """The last number is stored, by the highest voter: every number of his is old from then on, that one too, until the others begin an era. Where one voter is enough they cannot, as his change passes too."""
+    if len(s.map) <= 3:
         return
     i = s.map[-1][0]
     v = good(s, i, LAST)
     cast(s, split(s, [(wrong(s, v, "signature"), True), (v, False)] + again(s, v, LAST)))
-    cast(s, split(s, again(s, v, s.r.choice([LAST, LAST - 1, 0])) + [(v, False)]))
+    cast(s, split(s, again(s, v, *s.r.sample([LAST, LAST - 1, 0], 2)) + [(v, False)]))
     stored(s, v)
     cast(s, split(s, all_vote(s, ("schedule", (1,))) + some_again(s, v)))
     assert s.votes == {}

@@ -7,6 +7,9 @@ asks for it; whatever is exempt nowhere must be answered in the Rust's own words
 | CR 2 | a batch with key messages of a leaving node, at the first of which the Rust errs | the Rust's answer to the batch without them, with their faults put in; `refused 7` where it has none |
 | CR 6 | a reported batch with votes of an old number and of a wrong era or signature, at which the Rust looks no further than at the number | the Rust's answer, with their faults put in |
 | CR 7 | a reported batch; the Rust's report does not name the voters who carried the change | the Rust's answer, or what the requests above make of it, and the voters behind it |
+| CR 8 | the first batch in which several changes pass: there the Rust has another rule, and all that comes behind it hangs on who won | nothing: the log ends before it |
+| CR 8 | such a batch where it is built as the last one of its log (contests.py), and `state` and `board` behind it | the Rust's answer to a batch in which the winner passes alone, and the state behind that, with the votes and the list put in where that batch has others |
+| CR 8 | a `winner` of `values` with such votes | the generator's count |
 
 CR 3 and CR 5 exempt nothing: the Rust has no `board`, no `plan-new` and no `plan-old`, so the oracle is not asked, and what must be answered is a rule of the generator's own (board.py, plans.py).
 
@@ -31,9 +34,22 @@ CR 7, more closely. The field ` voters W` stands behind the Rust's words, of whi
 the Rust's `state` before it, and each vote of the batch that is stored over them (`is_stored`). Where no era began, so at a repeated win and where the report is `None`, the Rust's `state` behind the
 batch tells what is stored, and must tell just that, number and change of each voter; the list is then made from it. Where an era began it must tell no vote; what was stored there is asked of a second Rust
 when the log is made (stored.py).
+
+CR 8, more closely. A change passes with more than f voters. Counted are the votes stored behind those of the batch, as in CR 7 (`changes_behind`): those of the Rust's `state` before it, and each vote of the
+batch that is stored over them. Where several changes pass the log ends, also where both rules name one winner or a ready key generation decides, and where 7 is stated. A batch that a row before 7 refuses
+stores nothing, whatever votes it has, and is compared as ever. In every batch that is compared at most one change passes, and the one that passes is reported, or is the empty map where it is 7: stored.py holds
+each of them to that by the votes of a second Rust. So both rules name the same winner, or none. Beside a ready key generation, which is reported in its place, one may pass.
+
+In the last batch of a log of contests.py several changes pass, and who wins is the rule of support.py. The Rust is asked about a counterpart (`counterpart`): the same batch, and behind its votes one more of
+each voter of a change that passes and loses, for a change of his own, or, where one voter is enough, for the winner. So the winner alone passes, and the counterpart is asked about like any batch: its answer is
+what must be answered. The voters behind it are the counterpart's, too, where one voter is not enough; else they are put in, since those of the others are among the winner's there. The state behind it is what
+must be told, but for the votes where no era began (the candidate map wins again): those are the ones stored behind the batch as it is, and the board goes by them.
+
+In `values` the winner of given votes is the Rust's where at most one change passes, else the count of support.py.
 """
 import collections
 import board
+import support
 import voters
 import wire
 
@@ -344,9 +360,64 @@ def with_voters(call, group, ask, number, others):
     return voters.answer(answer, changes if began else now.changes, group.map)
 
 
-# Each exemption: its request, the batch calls that it takes out of the comparison, and what is asked of them. The first that takes a call counts, and is handed those behind it, of which CR 7 and CR 6
-# make use: they ask them first.
-EXEMPT = [("CR 7", is_reported, with_voters), ("CR 6", has_old_wrong, faults_of_old_wrong), ("CR 1", of_another_era, passed_over), ("CR 2", has_leaving, faults_of_leaving)]
+# -- CR 8 --------------------------------------------------------------------------------------------------------------------------
+class Ended(Exception):
+    """The log ends before this batch call, in this group."""
+
+
+def several_pass(call, group, number):
+    """Whether several changes pass in a batch call. One that was built for a row before 7 is refused by it, and its votes are not looked at."""
+    return number in (None, 7) and support.several_pass(changes_behind(read_call(call)[0], group), group.map)
+
+
+def ended(call, group, ask, number, others):
+    """CR 8. Nothing is asked of the Rust."""
+    raise Ended(call, group)
+
+
+def counterpart(call, group, over, won):
+    """The batch in which the winner alone passes: behind its votes one more of each voter of another change that passes, for something of his own, or, where one voter is enough, for the winner."""
+    contributions, verdicts = read_call(call)
+    numbers, winner = numbers_behind(contributions, group), wire.read_change(bytes.fromhex(won))
+    instead = lambda i: ("schedule", (3, i, 7)) if voters.most_faulty(group.map) > 0 else winner
+    contributions[-1][3].extend((instead(i), group.era, numbers[i] + 1, i, group.map[i]) for change in over if change != won for i in over[change])
+    return written_call(call, "batch", contributions, verdicts)
+
+
+def asked_where_several_pass(call, group, ask, over, won, number):
+    """CR 8. What must be answered to the last batch of a log of contests.py, in which these changes pass, each with its voters, and this one wins: the answer to the counterpart, behind which the oracle stays."""
+    told = asked(counterpart(call, group, over, won), ask, number)
+    if number is not None:
+        return told
+    words, listed = voters.cut(told)
+    carriers = [] if voters.report(words)[2] else over[won]
+    if voters.most_faulty(group.map) > 0 and listed != carriers:
+        raise SystemExit("the counterpart names %s, and the rule %s: %s" % (listed, carriers, call[:4000]))
+    return "%s voters %s" % (words, ",".join(map(str, carriers)) or "-")
+
+
+def state_where_several_pass(call, group, told, state):
+    """CR 8. The state behind such a batch: the one that the counterpart left, with the votes of the batch as it is where no era began, so that they stand."""
+    words, contributions = state.split(" "), read_call(call)[0]
+    if told.startswith("batch ") and int(words[1]) == group.era:
+        numbers, changes = numbers_behind(contributions, group), changes_behind(contributions, group)
+        words[5] = ",".join("%d:%d:%s" % (i, numbers[i], changes[i]) for i in sorted(changes))
+    return " ".join(words)
+
+
+def is_counted(votes, node_map):
+    """Whether the winner of these stored votes in `values` is the generator's count."""
+    return support.several_pass(votes, node_map)
+
+
+def winner_asked(answer, votes, node_map):
+    """CR 8. What must be answered to `winner` in `values`: the Rust's answer, or the count."""
+    return "ok " + support.winner(votes, node_map) if is_counted(votes, node_map) else answer
+
+
+# Each exemption that goes by the call: its request, the batch calls that it takes out of the comparison, and what is asked of them. The first that takes a call counts, and is handed those behind it, of which
+# CR 7 and CR 6 make use: they ask them first.
+EXEMPT = [("CR 8", several_pass, ended), ("CR 7", is_reported, with_voters), ("CR 6", has_old_wrong, faults_of_old_wrong), ("CR 1", of_another_era, passed_over), ("CR 2", has_leaving, faults_of_leaving)]
 
 
 def asked_of(call, group, ask, number, exempt):

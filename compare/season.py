@@ -3,13 +3,14 @@
 Each line of a log comes with what must be answered (requests.py): the oracle's own words, or, for a call that was built to be refused, `refused N`
 with the number of the row that it was built for, or `refused *` for bytes that were damaged at random (some refusal, no number stated). The Rust has no tally
 board, converts no join plan and names no voters: what must be answered to `board` is worked out from the votes that it tells (board.py), to `plan-new` and `plan-old` from the call (plans.py), and the voters
-behind a report from it and those votes (voters.py)."""
+behind a report from it and those votes (voters.py). A season ends before a batch in which several changes pass (CR 8), where the Rust has another rule."""
 import random
 import subprocess
 import board
 import plans
 import requests
 import schedule_edges
+import support
 import wire
 from plan_numbers import EDGES
 
@@ -20,6 +21,8 @@ ENOUGH = [FULL, FULL, (1025, 1025), (1024, 1026), (1500, 1025), (1024, 1999), (2
 SHORT = [(1023, 1025), (1024, 1024), (0, 2000), (2000, 0), (1, 1), (1023, 2000), (2000, 1024)]
 # the share of a season's batches that get votes of old numbers put in, as far as there are stored votes
 OLD_SHARE = 0.35
+# the share of those batches of a season that keep their votes in which several changes pass, so that the log ends (CR 8)
+ENDED_SHARE = 0.25
 # the calls that may change a state
 CHANGING = ("new", "join", "vote", "add", "remove", "message", "due", "batch")
 
@@ -53,9 +56,12 @@ class Season:
         self.edges = random.Random("schedule %d" % seed)
         self.editions = random.Random("plans %d" % seed)
         self.forged = random.Random("old votes %d" % seed)
+        self.several = random.Random("several pass %d" % seed)
         self.every_board = deep  # whether a board is asked behind each call that may change a state
         self.boards = []  # for each board that was asked: the call before it and its answer, the states told before that call and now
         self.batches = []  # each batch call with its answer, and the state told before it
+        self.ended = None  # the batch call before which the log ended, and the group then
+        self.contest, self.closing = None, []  # the last batch, where several changes pass in it (contests.py), and its lines with what must be answered
         self.heard = []  # key messages that were received or handed back, some of which are stored
         self.lines, self.answers = [], []
         self.shown = set()  # the places of boards, and of answers that a deep season adds
@@ -328,9 +334,26 @@ class Season:
             r.choice(cs)[3].append(v)
         return cs
 
+    def passing(self, cs):
+        """The changes that pass with these contributions."""
+        return support.passing(requests.changes_behind(cs, self.group), self.group.map)
+
+    def one_passes(self, cs):
+        """Takes votes out where several changes pass with these contributions, since the log would end there: those for the change with fewest first, until one passes. Now and then they stay."""
+        over, stay = self.passing(cs), self.small or self.rust
+        if len(over) < 2 or (not stay and self.several.random() < ENDED_SHARE):
+            return
+        while len(over) > 1:
+            cast = {wire.change(v[0]).hex() for c in cs for v in c[3]}
+            fewest = min((change for change in over if change in cast), key=lambda change: (len(over[change]), change))
+            for c in cs:
+                c[3][:] = [v for v in c[3] if wire.change(v[0]).hex() != fewest]
+            over = self.passing(cs)
+
     def batch(self, messages, votes, verdict=None, number=None):
         r = self.r
         cs = self.spread(messages, votes)
+        self.one_passes(cs)
         self.old_votes(cs)
         vs = [(verdict if verdict is not None else (0 if r.random() < 0.9 else r.randrange(4))) for c in cs for _ in c[2]]
         vs = [self.away.randrange(4) if requests.is_leaving(m, self.group) else v for v, m in zip(vs, [m for c in cs for m in c[2]])]

@@ -84,11 +84,6 @@ def others(p):
     return [i for i in p.behind if p.behind[i] != p.won]
 
 
-def counts_beside(p):
-    """With how many voters other changes stand beside the winner."""
-    return [len(voters.supporters(p.behind, change)) for change in {p.behind[i] for i in others(p)}]
-
-
 def for_it(p):
     """The votes for the winner that were not stored, of voters who are not in the list."""
     return [m for m in p.met if not requests.is_stored(m) and bytes_of(m.vote[0]) == p.won and m.vote[3] not in p.listed]
@@ -141,9 +136,6 @@ WINS = {
     "in another order than they voted in": lambda p: by_this_batch(p) != sorted(by_this_batch(p)),
     "behind a first vote for another": lambda p: bool(p.stored) and p.stored[0][1] != p.won,
     "beside other changes": lambda p: bool(others(p)),
-    "beside a change with as many voters": lambda p: len(p.listed) in counts_beside(p),
-    "beside a change with more voters": lambda p: max(counts_beside(p), default=0) > len(p.listed),
-    "beside a change that passes too": lambda p: max(counts_beside(p), default=0) > most(p),
     "beside a schedule equal in effect": lambda p: p.won in EVERY_EPOCH and any(p.behind[i] in EVERY_EPOCH for i in others(p)),
     "in a batch with key messages": lambda p: p.messages,
     "in a batch of 500 votes or more": lambda p: len(p.met) >= 500,

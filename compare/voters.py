@@ -2,7 +2,9 @@
 Rust's own report and the votes that are stored behind those of the batch: never from `replay`.
 
 Document 02: all voters whose stored vote, after the batch's votes, is for the winner, ascending; none where the report comes of a ready key generation or is `None`. Which votes are stored is not
-said here: requests.py has it, and holds it to the Rust's `state`. Changes are equal when their bytes are."""
+said here: requests.py has it, and holds it to the Rust's `state`. Changes are equal when their bytes are.
+
+Where several changes have more than f voters document 02's winner need not be the Rust's (CR 8): no such batch comes here (requests.py), but in a form in which one has (`counterpart` there)."""
 import collections
 
 # How the bytes in hex of a reported change begin, and those of a change behind it.

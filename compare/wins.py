@@ -40,9 +40,14 @@ def stated(answer, state, carriers):
         raise SystemExit("stated are %s and voters %s, and asked is %s" % (state, want[2], answer[:3000]))
 
 
+def contributions(s, votes, k):
+    """These votes in their order, as contributions of k proposers, in the map or in none."""
+    return [(p, b"", [], some) for p, some in split(s, votes, k)]
+
+
 def cast(s, votes, state, *carriers, messages=()):
-    """A batch of these votes in their order, of one proposer or several, in the map or in none; key messages stand in the first contribution. Votes of old numbers are put in as in any season."""
-    cs = [(p, b"", [], some) for p, some in split(s, votes, s.r.choice([1, 1, 2, 3]))]
+    """A batch of these votes in their order, of one proposer or several; key messages stand in the first contribution. Votes of old numbers are put in as in any season."""
+    cs = contributions(s, votes, s.r.choice([1, 1, 2, 3]))
     cs[0][2].extend(messages)
     s.old_votes(cs)
     stated(s.committed(s.line(cs, [0] * len(messages))), state, carriers)
@@ -78,7 +83,7 @@ def no_votes(s):
 
 # -- cases that begin without votes, with four nodes or more ---------------------------------------------------------------------------
 def in_one_batch(s):
-    """By exactly f + 1 voters, by all, and by a number between: those behind the one at whom counting stops are named too."""
+    """By exactly f + 1 voters, by all, and by a number between: those behind the one with whom it passes f are named too."""
     f, v = bound_and_nodes(s)
     for k in shuffled(s, [f + 1, len(v), s.r.randrange(f + 1, len(v) + 1)]):
         c, chosen = some_winner(s), s.r.sample(v, k)
@@ -112,16 +117,6 @@ def within_the_batch(s):
     x, (a, b, e, *rest) = others_than(s, c)[0], v[:f + 3]
     leaves, comes, equal = [vote(s, a, c), vote(s, a, x, 2)], [vote(s, b, x), vote(s, b, c, 2), vote(s, b, x)], [vote(s, e, c), vote(s, e, x)]
     cast(s, [w for one in shuffled(s, [leaves, comes, equal, of(s, rest, c)]) for w in one], report(c), b, e, *rest)
-
-
-def two_pass(s):
-    """Two changes pass, and the one whose last needed voter is the lower wins: the other's voters are not named, be they as many or more."""
-    f, v, c = most_faulty(s.map), ids(s), some_winner(s)
-    x, carry, rest = others_than(s, c)[0], v[1:f + 2], v[:1] + v[f + 2:]
-    early = rest[:f] if s.r.random() < 0.5 else []
-    if early:
-        cast(s, of(s, early, x), None)
-    wins(s, of(s, carry, c) + of(s, rest[len(early):], x), c, *carry)
 
 
 def equal_in_effect(s):
@@ -227,18 +222,20 @@ def key_generation(s):
 
 def completes(s):
     """Key generation completes, and nobody is named: in a batch without votes, or in one whose votes pass for a schedule, another map or the candidate map, be they all of this batch or not. The votes are
-    gone then, and nobody is named behind it."""
+    gone then, and nobody is named behind it. Those for whom the candidate map has won again vote first, so that it does not pass beside another change."""
     (f, v), c = bound_and_nodes(s), ("map", s.candidate)
     x = s.r.choice([("schedule", s.any_schedule())] * 3 + [another_map(s), c])
     k = s.r.choice([0, f + 1, f + 1, f + 1, len(v), len(v)])
     if k > 0 and f > 0 and not s.votes and s.r.random() < 0.5:
         cast(s, of(s, v[:f], x), None)
+    if x != c:
+        v.sort(key=lambda i: s.voted.get(i) != c)
     cast(s, of(s, v[:k], x), ("complete", c), messages=key_generation(s))
     assert s.candidate is None and s.map == c[1]
     cast(s, [], None)
 
 
-STAY = [in_one_batch, over_batches, goes_over, within_the_batch, two_pass, equal_in_effect, not_stored, pending, last_era, no_majority, refused, beside_messages]
+STAY = [in_one_batch, over_batches, goes_over, within_the_batch, equal_in_effect, not_stored, pending, last_era, no_majority, refused, beside_messages]
 
 
 # -- cases behind which the nodes are others -------------------------------------------------------------------------------------------
@@ -280,27 +277,18 @@ def all_of_few(s):
     wins(s, of(s, v, c), c, *v)
 
 
-def lowest(s):
-    """Several changes pass: the lowest voter's wins, and he is named with those who vote for it too, be they fewer than others."""
-    v, c = ids(s), some_winner(s)
-    x, other = others_than(s, c)[0], s.r.choice([v[1:], v[1:2], v[2:]])
-    wins(s, of(s, [i for i in v if i not in other], c) + of(s, other, x), c, *[i for i in v if i not in other])
-
-
 def alone_again(s):
-    """The candidate map wins again by one voter, by no vote of the batch, by another one more; then the highest goes over to something else, and at last the lowest, whose change wins."""
+    """The candidate map wins again by one voter, by no vote of the batch, by another one more; then both go over to something else, which wins."""
     v, c = ids(s), another_map(s)
     wins(s, of(s, v[:1], c), c, v[0])
-    x, y = others_than(s, c, ("map", s.map))[:2]
+    x = others_than(s, c, ("map", s.map))[0]
     wins(s, of(s, v[-1:], c), c, v[-1])
     wins(s, [], c, v[-1])
     wins(s, of(s, v[:1], c), c, *{v[0], v[-1]})
-    if len(v) > 1:
-        wins(s, of(s, v[-1:], x), c, v[0])
-    wins(s, of(s, v[:1], y), y, v[0])
+    wins(s, of(s, sorted({v[0], v[-1]}), x), x, *{v[0], v[-1]})
 
 
-ALONE = [one, all_of_few, lowest, alone_again, of_three, joins]
+ALONE = [one, all_of_few, alone_again, of_three, joins]
 
 
 def season(s):

@@ -25,16 +25,6 @@ module _ {A : Type 0} (P : A → Type 0) where
       go true e ih = let q : x ≡ a = cc in subst P q ps.0
       go false e ih = ih e
 
-  -- some elements left out
-  pub all_filter : (p : A → Bool) (xs : List A) → All P xs → All P (filter p xs)
-  unfolding filter
-  all_filter p [] ps = tt
-  all_filter p (x ∷ xs) ps = go (p x) (all_filter p xs ps.1)
-    where
-      go : (b : Bool) → All P (filter p xs) → All P (cond b (x ∷ filter p xs) (filter p xs))
-      go true qs = (ps.0, qs)
-      go false qs = qs
-
   -- one element more at the end
   pub all_more : (xs : List A) (a : A) → All P xs → P a → All P (xs ++ (a ∷ []))
   all_more [] a ps p = (p, tt)

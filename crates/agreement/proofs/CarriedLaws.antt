@@ -1,4 +1,4 @@
--- 02, CR 7: "In a counter as in CR 3", so in every reachable state: who is listed in a report. And two nodes that agree list the same voters.
+-- 02, CR 7 and CR 8: "In a counter as in CR 3", so in every reachable state: who is listed in a report, and that the change has most support. And two nodes that agree list the same voters.
 -- Assumes nothing.
 use Prim.Native.Nat.{ℕ}
 use mathlib.Core.Path.{◌≡◌, refl, sym, ap, subst, ◌∙◌}
@@ -17,6 +17,7 @@ use Rattle.vote_counter.specs.VoteCounter as counter
 use Rattle.vote_counter.specs.VoteCounter.{CounterOf, add_committed, compute_winner, carried_by, carried}
 use Rattle.vote_counter.specs.Carried.{Carries}
 use Rattle.vote_counter.proofs.CarriedLaws.{kept_carries}
+use Rattle.vote_counter.proofs.MostLaws.{kept_most}
 use Rattle.key_gen_state.specs.KeyGenState.{ready_state}
 use Rattle.internal_contrib.specs.InternalContrib.{ContribOf, read_batch}
 use Rattle.dynamic_honey_badger.specs.State.{StateOf, nodes_in}
@@ -85,6 +86,7 @@ module _ (z : Sizes) where
               carries =
                   subst (λ (ids : List ℕ). Carries counted.counter (record { change = x; voters = ids })) (sym l.0)
                   (kept_carries counted.counter (carried_by counted.counter x) (won x e) counted_kept);
+              by_most = ((kept_most counted.counter counted_kept).by_most x).0 e;
             }
 
     -- where a winner was taken: no key generation was ready, and the report is not `None`

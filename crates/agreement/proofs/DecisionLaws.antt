@@ -24,7 +24,8 @@ use Rattle.process_output.specs.Refusals.{batch_row7}
 use Rattle.reference.specs.Reference.{RefState}
 use Rattle.reference.specs.Step.{RefWork, ref_complete, is_ready, ref_ready, RefDecided, decided_ref, new_era_ref, ref_completed, is_candidate_ref, ref_elected, ref_winner, ref_decide, ref_row5, wins_empty, ref_row7}
 use Rattle.reference.specs.Winner.{ids_for}
-use Rattle.reference.proofs.WinnerLaws.{winner_is, ids_are}
+use Rattle.reference.proofs.VotersLaws.{ids_are}
+use Rattle.reference.proofs.EngineLaws.{winner_is}
 use Rattle.agreement.specs.Shared.{part_ref, candidate_ref, ref_of}
 use Rattle.agreement.proofs.StepLaws.{item_count, contribs_shared}
 
@@ -39,7 +40,7 @@ unfolding is_ready ready enough
 ready_is (found g) = rw (count_is g.key_gen)
 ready_is nothing = refl
 
--- the first past f is whom the engine counts out
+-- the change with most support is the engine's winner
 winner_shared : (s : StateOf) → ref_winner (ref_of s) ≡ compute_winner s.counter
 unfolding compute_winner
 winner_shared s = winner_is (max_faulty (length (nodes_in s))) s.counter.committed

@@ -23,7 +23,7 @@ use Rattle.honey_badger.specs.declared.EncryptionSchedule.{EncryptionSchedule}
 use Rattle.params.specs.Params.{ParamsOk}
 use Rattle.change.specs.Change.{ChangeOf, node_change, encryption_schedule, in_progress, same_change, ChangeOk}
 use Rattle.votes.specs.Votes.{SignedVoteOf, SignedVoteOk}
-use Rattle.winner.specs.Winner.{winner}
+use Rattle.board.specs.Board.{cast_of}
 use Rattle.vote_counter.specs.VoteCounter as counter
 use Rattle.signed_votes.specs.SignedVotes.{voter_of}
 use Rattle.vote_counter.proofs.BoardKept.{board_kept}
@@ -45,9 +45,11 @@ use Rattle.process_output.specs.Process.{BatchCall, finished, processed}
 use Rattle.process_output.proofs.CallLaws.{IsTaken, batch_cases}
 use Rattle.vote_counter.proofs.MemberLaws.{signer_member}
 use Rattle.agreement.specs.Formed.{MapFormed, RunningFormed, Formed}
-use Rattle.agreement.proofs.Sound.{FoundOk, winner_ok, all_map}
+use Rattle.agreement.proofs.Sound.{FoundOk, winner_ok}
 use Rattle.lists.proofs.FilterLaws.{filter_length}
-use Rattle.agreement.proofs.AllLaws.{all_filter, all_then, fold_keeps}
+use Rattle.winner.specs.Support.{Cast}
+use Rattle.winner.proofs.AmongLaws.{all_filter, all_map}
+use Rattle.agreement.proofs.AllLaws.{all_then, fold_keeps}
 use Rattle.agreement.proofs.FormedParts.{vote_more}
 use Rattle.agreement.proofs.FormedKeyGen.{fresh_formed, handled_formed}
 use Rattle.agreement.proofs.FormedChanges.{with_committed_lem, with_key_gen_lem, with_params_lem, with_store_lem, with_last_lem, new_era_formed}
@@ -140,11 +142,12 @@ map_formed z ns o e = record { map_ok = o; some = λ q. false_true (sym e ∙ ap
 module _ (z : Sizes) (era : ℕ) (fits : era < 256 ^ 8) (s : StateOf) (later : era_of s < era) (f : Formed z s) where
   -- the winner is a change that was voted for
   winner_formed : FoundOk (ChangeOk z) (compute_winner s.counter)
-  unfolding compute_winner winner
+  unfolding compute_winner
   winner_formed =
-      winner_ok (ChangeOk z) same_change (max_faulty (length (nodes_in s))) [] (map (λ (v : SignedVoteOf). v.vote.change) s.counter.committed)
-      (all_map (λ (v : SignedVoteOf). v.vote.change) (ChangeOk z) s.counter.committed
-      (all_then (SignedVoteOk z) (λ (v : SignedVoteOf). ChangeOk z v.vote.change) (λ v o. o.vote_ok.change_ok) s.counter.committed f.committed_formed.votes_ok))
+      winner_ok (ChangeOk z) same_change (max_faulty (length (nodes_in s))) (map cast_of s.counter.committed)
+      (all_map (λ (v : Cast ChangeOf). v.choice) (ChangeOk z) (map cast_of s.counter.committed)
+      (all_map cast_of (λ (v : Cast ChangeOf). ChangeOk z v.choice) s.counter.committed
+      (all_then (SignedVoteOk z) (λ (v : SignedVoteOf). ChangeOk z v.vote.change) (λ v o. o.vote_ok.change_ok) s.counter.committed f.committed_formed.votes_ok)))
 
   -- another map wins
   map_wins_formed : (voters : List ℕ) (ns : List Node) → MapFormed z ns → Formed z (map_wins z era s voters ns).state

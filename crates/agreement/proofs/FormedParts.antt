@@ -18,7 +18,8 @@ use Rattle.pub_key_map.specs.PubKeyMap.{id_of}
 use Rattle.node_change.specs.NodeChange.{is_not, with_node, without_node}
 use Rattle.agreement.specs.Formed.{VotesFormed}
 use Rattle.lists.proofs.FilterLaws.{filter_length}
-use Rattle.agreement.proofs.AllLaws.{all_filter, within_length, ascends_filter}
+use Rattle.winner.proofs.AmongLaws.{all_filter}
+use Rattle.agreement.proofs.AllLaws.{within_length, ascends_filter}
 
 -- a map's nodes ascend, and each has an id and a key that fit
 abbrev pub NodeFits : Node → Type 0

@@ -3,10 +3,9 @@
 -- Assumes nothing.
 use Prim.Native.Nat.{ℕ, ◌+◌, ◌^◌, ◌<◌}
 use mathlib.Core.Path.{◌≡◌, refl, subst}
-use mathlib.Core.List.{List, [], ◌∷◌, ◌++◌, map}
+use mathlib.Core.List.{List, [], ◌∷◌, map}
 use mathlib.Core.Bool.{Bool, true, false, cond}
 use native.Mathlib.Omega.{arith}
-use lib.Dec.{ltb}
 use lib.ListN.{length}
 use borrow.Author.Tests.{ltb-false}
 use Rattle.lists.specs.Lists.{Found, found, nothing, map_found}
@@ -26,7 +25,10 @@ use Rattle.params.specs.Params.{read_params, params_bytes, ParamsOk}
 use Rattle.params.proofs.ParamsCodes.{params_codes}
 use Rattle.change.specs.Change.{ChangeOf, node_change, encryption_schedule, ChangeStateOf, none, in_progress, complete, same_change, ChangeOk, StateOk}
 use Rattle.votes.specs.Votes.{SignedVoteOf, SignedVoteOk}
-use Rattle.winner.specs.Winner.{support, winner_after, winner}
+use Rattle.winner.specs.Support.{Cast, choices}
+use Rattle.winner.specs.Winner.{winner}
+use Rattle.winner.proofs.AmongLaws.{all_one}
+use Rattle.winner.proofs.WinnerLaws.{winner_among}
 use Rattle.util.specs.MaxFaulty.{max_faulty}
 use Rattle.join_plan.specs.JoinPlan.{PlanOf, read_plan, PlanOk}
 use Rattle.join_plan.proofs.PlanCodes.{plan_one_encoding}
@@ -35,9 +37,9 @@ use Rattle.internal_contrib.specs.declared.Budget.{Budget}
 use Rattle.internal_contrib.specs.InternalContrib.{ContribOf, read_batch, spending, opening, ContribOk}
 use Rattle.internal_contrib.proofs.ContribCodes.{batch_one_encoding}
 use Rattle.reference.specs.Reference.{CandidateRef, RefState}
-use Rattle.reference.specs.Winner.{choice_of}
 use Rattle.reference.specs.Step.{RefDecided, decided_ref, new_era_ref, RefReport, RefAnswer, SharedBatch, ref_contribs, ref_ready, ref_completed, is_candidate_ref, ref_voters, ref_elected, ref_winner, ref_decide, ref_row5, denied_ref, ref_steps, ref_batch, ref_read, passes_over, ref_step, ref_after, ref_run}
-use Rattle.reference.proofs.WinnerLaws.{winner_is}
+use Rattle.reference.proofs.VotersLaws.{cast_ref, all_choices}
+use Rattle.reference.proofs.EngineLaws.{winner_is}
 use Rattle.reference.proofs.ReportLaws.{tests}
 use Rattle.agreement.specs.Shared.{plan_candidate, plan_ref}
 use Rattle.agreement.specs.Calls.{Start, new_start, join_start}
@@ -51,20 +53,13 @@ module _ {A : Type 0} (P : A → Type 0) where
   FoundOk (found a) = P a
   FoundOk nothing = Unit {0}
 
-  -- a winner is one of the choices
-  pub winner_ok : (eq : A → A → Bool) (f : ℕ) (seen xs : List A) → All P xs → FoundOk (winner_after eq f seen xs)
-  unfolding winner_after
-  winner_ok eq f seen [] ps = tt
-  winner_ok eq f seen (x ∷ xs) ps = go (ltb f (support eq x (seen ++ (x ∷ [])))) (winner_ok eq f (seen ++ (x ∷ [])) xs ps.1)
+  -- so is a winner, where it holds of all choices
+  pub winner_ok : (eq : A → A → Bool) (f : ℕ) (vs : List (Cast A)) → All P (choices vs) → FoundOk (winner eq f vs)
+  winner_ok eq f vs ps = go (winner eq f vs) refl
     where
-      go : (b : Bool) → FoundOk (winner_after eq f (seen ++ (x ∷ [])) xs) → FoundOk (cond b (found x) (winner_after eq f (seen ++ (x ∷ [])) xs))
-      go true p = ps.0
-      go false p = p
-
-module _ {A B : Type 0} (f : A → B) (P : B → Type 0) where
-  pub all_map : (xs : List A) → All (λ x. P (f x)) xs → All P (map f xs)
-  all_map [] ps = tt
-  all_map (x ∷ xs) ps = (ps.0, all_map xs ps.1)
+      go : (r : Found A) → winner eq f vs ≡ r → FoundOk r
+      go (found x) e = all_one P (choices vs) ps x (winner_among eq f vs x e)
+      go nothing e = tt
 
 module _ (z : Sizes) where
   -- a vote for a change that some bytes are read as
@@ -92,13 +87,13 @@ module _ (z : Sizes) where
   DecidedOk d = RefOk d.state × StateOk z d.ruling.change
 
   decide_ok : (era : ℕ) (s : RefState) → RefOk s → DecidedOk (ref_decide era s)
-  unfolding ref_decide winner
+  unfolding ref_decide
   decide_ok era s o = go (ref_ready s.candidate) s.candidate o.candidate_ok (ref_winner s) chosen
     where
       chosen : FoundOk (ChangeOk z) (ref_winner s)
       chosen =
           rw (winner_is (max_faulty (length s.nodes)) s.votes)
-          (winner_ok (ChangeOk z) same_change (max_faulty (length s.nodes)) [] (map choice_of s.votes) (all_map choice_of (ChangeOk z) s.votes o.votes_ok))
+          (winner_ok (ChangeOk z) same_change (max_faulty (length s.nodes)) (map cast_ref s.votes) (all_choices (ChangeOk z) s.votes o.votes_ok))
 
       wins : (ns : List Node) → MapOk z ns → (b : Bool)
           → DecidedOk

@@ -14,8 +14,8 @@ use Rattle.util.specs.MaxFaulty.{max_faulty}
 use Rattle.honey_badger.specs.EncryptionSchedule.{read_schedule, schedule_bytes}
 use Rattle.change.specs.Change.{same_change, read_change, change_bytes}
 use Rattle.votes.specs.Votes.{read_vote, vote_bytes, read_signed_vote, signed_bytes}
-use Rattle.winner.specs.Winner.{support, winner_after, winner}
-use Rattle.winner.specs.Board.{supporters}
+use Rattle.winner.specs.Support.{support, supporters}
+use Rattle.winner.specs.Winner.{passing, foremost, winner}
 use Rattle.vote_counter.specs.VoteCounter.{obsolete, valid_vote, vote_effect, add_committed, pending_effect, add_pending, sign_vote_for, compute_winner, supporters_of, carried}
 use Rattle.sync_key_gen.specs.SyncKeyGen.{read_handles, handles_bytes, read_part}
 use Rattle.key_gen.specs.KeyGen.{row_effect, value_effect, record_part, part_of_index, handle_part, acked, record_ack, ack_of_index, handle_ack, complete, count_complete, enough, ready}
@@ -60,7 +60,7 @@ add_cast = refl
 
 -- the first batch: the vote wins, a new era begins, key generation starts
 pub added_reported : processed base voted add_batch ≡ record { state = added; answer = done add_report }
-unfolding processed batch_row1 processed_contribs batch_row4 message_count some batch_row15 row5 batch_row7 empty_wins committed committed_contrib committed_vote add_committed vote_effect obsolete lookup valid_vote key_of insert_within has_key insert is_member carried supporters_of supporters compute_winner winner winner_after support same_change eq_list same_node max_faulty decide map_wins key_gen_for new_era from_era filter
+unfolding processed batch_row1 processed_contribs batch_row4 message_count some batch_row15 row5 batch_row7 empty_wins committed committed_contrib committed_vote add_committed vote_effect obsolete lookup valid_vote key_of insert_within has_key insert is_member carried supporters_of supporters compute_winner winner passing foremost support same_change eq_list same_node max_faulty decide map_wins key_gen_for new_era from_era filter
 added_reported = ap (processed_read base voted add_batch) adding_read
 
 -- 02, CR 1: behind it a batch of the closed era is refused by 15

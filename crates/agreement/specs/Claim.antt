@@ -1,5 +1,5 @@
 -- The claims of demand 3: what is said of a node's whole list of calls, and of two nodes.
-use Rattle.std.specs.Prelude.{ℕ, ◌≡◌, List, [], ◌⊎◌}
+use Rattle.std.specs.Prelude.{ℕ, ◌≡◌, List, [], map, length, ◌⊎◌}
 use Rattle.lists.specs.Lists.{Found, found, nothing}
 use Rattle.bincode.specs.Read.{Read, value, refuse, whole}
 use Rattle.bincode.specs.Numbers.{fixed}
@@ -9,7 +9,10 @@ use Rattle.pub_key_map.specs.declared.Node.{Node}
 use Rattle.pub_key_map.specs.PubKeyMap.{read_map}
 use Rattle.params.specs.declared.Params.{Params}
 use Rattle.params.specs.Params.{read_params}
-use Rattle.change.specs.Change.{ChangeOf, in_progress, complete}
+use Rattle.util.specs.MaxFaulty.{max_faulty}
+use Rattle.change.specs.Change.{ChangeOf, same_change, in_progress, complete}
+use Rattle.winner.specs.WinnerTerms.{Wins}
+use Rattle.board.specs.Board.{cast_of}
 use Rattle.vote_counter.specs.Carried.{Carries}
 use Rattle.batch.specs.Batch.{BatchOf}
 use Rattle.join_plan.specs.JoinPlan.{PlanOf, read_plan}
@@ -67,9 +70,10 @@ abbrev pub told_voters : Outcome RefReport → List ℕ
 told_voters (done r) = r.batch.voters
 told_voters (refused n) = []
 
--- who is listed in a report: v is the state with the batch's own votes, before a new era; the map is the one before the batch
+-- who is listed in a report, and that those carried the change with most support (02, CR 8): v is the state with the batch's own votes, before a new era; the map is the one before the batch
 pub record VotersListed (s v : StateOf) (b : BatchOf) : Type 0 where
   pub same_map : v.counter.nodes ≡ nodes_in s
   pub won : ChangeOf
   pub told : (b.change ≡ in_progress won) ⊎ (b.change ≡ complete won)
   pub carries : Carries v.counter (record { change = won; voters = b.voters })
+  pub by_most : Wins same_change (map cast_of v.counter.committed) (max_faulty (length v.counter.nodes)) won

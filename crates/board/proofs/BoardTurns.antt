@@ -23,8 +23,8 @@ use Rattle.votes.specs.declared.SignedVote.{SignedVote}
 use Rattle.votes.specs.Votes.{SignedVoteOf, signed_of, no_signed, voter_in as voter_in_vote}
 use Rattle.signed_votes.specs.declared.SignedVotes.{SignedVotes}
 use Rattle.signed_votes.specs.SignedVotes.{held, votes_of, voter_of}
-use Rattle.winner.specs.Winner.{support}
-use Rattle.winner.specs.Board.{Cast, Row, choices, least_with, supporters, lowest, first_choices, row_for, is_before, placed, in_order, board}
+use Rattle.winner.specs.Support.{support, Cast, choices, least_with, supporters, lowest}
+use Rattle.winner.specs.Board.{Row, first_choices, row_for, is_before, placed, in_order, board}
 use Rattle.winner.proofs.SupportTurns.{count_yes, count_no}
 use Rattle.winner.proofs.LowestTurns.{none_supports, lowest_yes, lowest_no, lowest_own, choice_first, choice_again, choices_end}
 use Rattle.winner.proofs.BoardOrder.{in_order_map}

@@ -15,7 +15,8 @@ use Rattle.change.proofs.ChangeLaws.{change_true, change_refl}
 use Rattle.votes.specs.Votes.{SignedVoteOf}
 use Rattle.signed_votes.specs.SignedVotes.{voter_of}
 use Rattle.signed_votes.proofs.VotesLaws.{AscendsFrom}
-use Rattle.winner.specs.Board.{Cast, Row, voters, sum}
+use Rattle.winner.specs.Support.{Cast, voters}
+use Rattle.winner.specs.Board.{Row, sum}
 use Rattle.winner.specs.BoardTerms.{Among, Unrepeated, IsBoard}
 use Rattle.winner.proofs.BoardSums.{counts_add_up, rows_few}
 use Rattle.winner.proofs.BoardLaws.{board_is, row_cast}

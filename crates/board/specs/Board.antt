@@ -6,7 +6,8 @@ use Rattle.bincode.specs.Sizes.{base}
 use Rattle.change.specs.Change.{ChangeOf, node_change, change_of, same_change}
 use Rattle.votes.specs.Votes.{SignedVoteOf}
 use Rattle.signed_votes.specs.SignedVotes.{voter_of}
-use Rattle.winner.specs.Board.{Cast, Row, board}
+use Rattle.winner.specs.Support.{Cast}
+use Rattle.winner.specs.Board.{Row, board}
 use Rattle.board.specs.declared.Board.{Board}
 use Rattle.board.specs.declared.BoardRow.{BoardRow}
 use Rattle.board.specs.declared.Standing.{Standing}

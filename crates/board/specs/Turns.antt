@@ -3,8 +3,8 @@ use Rattle.std.specs.Prelude.{ℕ, suc, ◌+◌, ◌≤◌, ◌<◌, ◌≡◌, 
 use Rattle.std.specs.List.{slice_index_or}
 use Rattle.change.specs.Change.{ChangeOf, same_change}
 use Rattle.votes.specs.Votes.{SignedVoteOf, no_signed}
-use Rattle.winner.specs.Winner.{support}
-use Rattle.winner.specs.Board.{choices, row_for, is_before}
+use Rattle.winner.specs.Support.{support, choices}
+use Rattle.winner.specs.Board.{row_for, is_before}
 use Rattle.board.specs.declared.BoardRow.{BoardRow}
 use Rattle.board.specs.Board.{count_in, voter_in, cast_of, kept_row}
 

@@ -38,7 +38,7 @@ pub struct Standing {
 }
 
 // Whether a row stands before another: a larger count, or an equal one and a lower voter.
-fn is_before(r: BoardRow, q: BoardRow) -> bool
+pub fn is_before(r: BoardRow, q: BoardRow) -> bool
     ensures { result ≡ is_before count_in voter_in r q }
 {
     q.count < r.count || (q.count == r.count && r.voter < q.voter)

@@ -1,4 +1,4 @@
--- 01, "Half-marathon examples": the marked ones (*), in their order; and 02's key messages of a leaving node, boards, join plans in both editions, votes of old numbers and voters behind a winner. A later layer adds its own kind of row here.
+-- 01, "Half-marathon examples": the marked ones (*), in their order; and 02's key messages of a leaving node, boards, join plans in both editions, votes of old numbers, voters behind a winner and winners among several changes over f. A later layer adds its own kind of row here.
 use Rattle.std.specs.Prelude.{ℕ, zero, suc, ◌+◌, ◌-◌, ◌^◌, ◌≡◌, List, [], ◌∷◌, Bool, true, false, length, take, replicate}
 use Rattle.lists.specs.Lists.{Found, found, nothing}
 use Rattle.bincode.specs.Read.{value, whole}
@@ -11,7 +11,7 @@ use Rattle.honey_badger.specs.declared.EncryptionSchedule.TheVariants.{Always, N
 use Rattle.honey_badger.specs.EncryptionSchedule.{use_on_epoch}
 use Rattle.change.specs.Change.{ChangeOf, node_change, encryption_schedule, in_progress, complete, same_change}
 use Rattle.winner.specs.Board as board
-use Rattle.winner.specs.Board.{Cast}
+use Rattle.winner.specs.Support.{Cast}
 use Rattle.pub_key_map.specs.declared.Node.{Node}
 use Rattle.votes.specs.Votes.{VoteOf, SignedVoteOf, vote_bytes}
 use Rattle.params.specs.declared.SubsetHandlingStrategy.TheVariants.{Incremental, AllAtEnd}
@@ -22,7 +22,7 @@ use Rattle.fault_log.specs.declared.FaultKind.TheVariants.{InvalidCommittedVote,
 use Rattle.fault_log.specs.declared.Fault.{Fault}
 use Rattle.internal_contrib.specs.InternalContrib.{ContribOf}
 use Rattle.reference.specs.Reference.{PartRef, RefState, open_ref}
-use Rattle.reference.specs.Winner.{first_past}
+use Rattle.reference.specs.Winner.{most_support}
 use Rattle.reference.specs.Step.{is_ready, RefReport, ref_batch}
 
 pub data Row : Type 0 where
@@ -40,6 +40,8 @@ pub data Row : Type 0 where
   kept : RefState → ℕ → List ContribOf → List SignedVoteOf → Row
   -- the voters that its report lists (02, CR 7)
   listed : RefState → ℕ → List ContribOf → List ℕ → Row
+  -- the row of the table that refuses it
+  denied : RefState → ℕ → List ContribOf → ℕ → Row
   -- the board of some voters with their choices: counts and choices, in order (02, CR 3)
   shown : List (Cast ChangeOf) → List (ℕ × ChangeOf) → Row
   -- a vote as bytes
@@ -90,6 +92,10 @@ four = record { id = 1; key = 11 } ∷ record { id = 2; key = 12 } ∷ record { 
 
 abbrev pub in_era : ℕ → RefState
 in_era era = open_ref era four (record { max_future_epochs = 3; subset_handling_strategy = Incremental; encryption_schedule = Always })
+
+-- and five
+abbrev pub five_in : ℕ → RefState
+five_in era = open_ref era (nodes_from 1 5) (in_era era).params
 
 abbrev pub vote_of : ℕ → ℕ → ChangeOf → SignedVoteOf
 vote_of era i c = record { vote = record { change = c; era = era; num = 0 }; voter = i; sig = i + 10 }
@@ -204,12 +210,13 @@ long_plan =
 -- what a row claims
 abbrev pub Holds : Row → Type 0
 Holds (faulty n f) = max_faulty n ≡ f
-Holds (won n choices r) = first_past (max_faulty n) (votes_from 1 choices) ≡ r
+Holds (won n choices r) = most_support (max_faulty n) (votes_from 1 choices) ≡ r
 Holds (finished n acks b) = is_ready (record { nodes = nodes_from 1 n; parts = parts_from 0 acks }) ≡ b
 Holds (moved s inner cs epoch era) = (epoch_of (ref_batch base s inner cs).answer ≡ done epoch) × ((ref_batch base s inner cs).state.era ≡ era)
 Holds (blamed s inner cs fs) = faults_of (ref_batch base s inner cs).answer ≡ done fs
 Holds (kept s inner cs vs) = (ref_batch base s inner cs).state.votes ≡ vs
 Holds (listed s inner cs ids) = voters_of (ref_batch base s inner cs).answer ≡ done ids
+Holds (denied s inner cs n) = voters_of (ref_batch base s inner cs).answer ≡ refused n
 Holds (shown vs rs) = shown_of (board.board same_change vs) ≡ rs
 Holds (encoded v bytes) = vote_bytes v ≡ bytes
 Holds (planned p old new) =
@@ -230,6 +237,10 @@ Y = node_change (record { id = 1; key = 11 } ∷ [])
 abbrev pub nth : ChangeOf
 nth = encryption_schedule (EveryNthEpoch 1)
 
+-- the map without nodes
+abbrev pub nobody : ChangeOf
+nobody = node_change []
+
 abbrev pub both : ChangeOf
 both = encryption_schedule (TickTock 1 0)
 
@@ -241,8 +252,8 @@ rows =
     ∷ faulty 4 1
     ∷ faulty 7 2
     ∷ faulty 16 5
-    -- n=4, voters 1:X, 2:Y, 3:Y, 4:X: Y wins; 1:X, 2:Y: none
-    ∷ won 4 (X ∷ Y ∷ Y ∷ X ∷ []) (found Y)
+    -- n=4, voters 1:X, 2:Y, 3:Y, 4:X: X wins (02, CR 8; Y by 01's own rule); 1:X, 2:Y: none
+    ∷ won 4 (X ∷ Y ∷ Y ∷ X ∷ []) (found X)
     ∷ won 4 (X ∷ Y ∷ []) nothing
     -- n=4: 2 acks incomplete, 3 complete: beside two complete parts, a third one of 2 acks or of 3
     ∷ finished 4 (4 ∷ 4 ∷ 2 ∷ []) false
@@ -290,8 +301,8 @@ rows =
     (fault_of 1 InvalidCommittedVote ∷ fault_of 1 InvalidCommittedVote ∷ fault_of 1 InvalidCommittedVote ∷ fault_of 1 InvalidCommittedVote ∷
     fault_of 3 InvalidCommittedVote ∷ fault_of 3 InvalidCommittedVote ∷ [])
     ∷ kept (renewed_in 5 X) 3 (forged 5 X Y) (second 5 2 12 Y ∷ [])
-    -- 02, CR 7: 1:X, 2:Y, 3:Y, 4:X, and Y wins by 2 and 3; 1:X, 2:X, 3:Y, 4:X, and X wins by 4 too, who stands behind the voter at whom counting stops
-    ∷ listed (in_era 0) 3 (ballot (votes_from 1 (X ∷ Y ∷ Y ∷ X ∷ []))) (2 ∷ 3 ∷ [])
+    -- 02, CR 7: 1:X, 2:Y, 3:Y, 4:X, and X wins by 1 and 4; 1:X, 2:X, 3:Y, 4:X, and X wins by 4 too, who stands behind the one with whom it passes f
+    ∷ listed (in_era 0) 3 (ballot (votes_from 1 (X ∷ Y ∷ Y ∷ X ∷ []))) (1 ∷ 4 ∷ [])
     ∷ listed (in_era 0) 3 (ballot (votes_from 1 (X ∷ X ∷ Y ∷ X ∷ []))) (1 ∷ 2 ∷ 4 ∷ [])
     -- the vote of 2 is of an earlier batch; then 2 goes over to Y; and nobody is listed with `None`, though a vote is left
     ∷ listed (renewed_in 5 X) 3 (ballot (vote_of 5 4 X ∷ [])) (2 ∷ 4 ∷ [])
@@ -300,4 +311,20 @@ rows =
     -- the candidate map wins again; and a ready key generation completes, where Y passes f
     ∷ listed (renewed_in 5 X) 3 (ballot (vote_of 5 4 (node_change renewed) ∷ vote_of 5 1 (node_change renewed) ∷ [])) (1 ∷ 4 ∷ [])
     ∷ listed (ready_in 5) 3 (two_for 5 Y) []
+    -- 02, CR 8: more voters win, whoever has enough first, the schedule X as well as the map Y; of as many, the lowest voter's, also among three
+    ∷ won 5 (X ∷ X ∷ Y ∷ Y ∷ Y ∷ []) (found Y)
+    ∷ won 5 (Y ∷ Y ∷ X ∷ X ∷ X ∷ []) (found X)
+    ∷ won 4 (Y ∷ X ∷ X ∷ Y ∷ []) (found Y)
+    ∷ won 6 (nth ∷ X ∷ Y ∷ Y ∷ X ∷ nth ∷ []) (found nth)
+    -- as many each: Y's lowest voter is 1 and X's is 2, whose vote is of an earlier batch; then 2 has gone over to Y
+    ∷ listed (renewed_in 5 X) 3 (ballot (vote_of 5 4 X ∷ vote_of 5 3 Y ∷ vote_of 5 1 Y ∷ [])) (1 ∷ 3 ∷ [])
+    ∷ listed (renewed_in 5 X) 3 (ballot (vote_of 5 4 X ∷ vote_of 5 3 Y ∷ vote_of 5 1 X ∷ second 5 2 12 Y ∷ [])) (1 ∷ 4 ∷ [])
+    -- the candidate map has no advantage, and no disadvantage
+    ∷ listed (renewed_in 5 X) 3 (ballot (vote_of 5 1 X ∷ vote_of 5 3 (node_change renewed) ∷ vote_of 5 4 (node_change renewed) ∷ [])) (1 ∷ 2 ∷ [])
+    ∷ listed (renewed_in 5 X) 3 (ballot (vote_of 5 3 X ∷ vote_of 5 4 (node_change renewed) ∷ vote_of 5 1 (node_change renewed) ∷ [])) (1 ∷ 4 ∷ [])
+    -- row 7 only where the empty map wins: with as many voters and the lowest, or with most; else it is passed by
+    ∷ denied (in_era 0) 3 (ballot (votes_from 1 (nobody ∷ X ∷ X ∷ nobody ∷ []))) 7
+    ∷ denied (five_in 0) 3 (ballot (votes_from 1 (X ∷ X ∷ nobody ∷ nobody ∷ nobody ∷ []))) 7
+    ∷ listed (in_era 0) 3 (ballot (votes_from 1 (X ∷ nobody ∷ nobody ∷ X ∷ []))) (1 ∷ 4 ∷ [])
+    ∷ listed (five_in 0) 3 (ballot (votes_from 1 (nobody ∷ nobody ∷ X ∷ X ∷ X ∷ []))) (3 ∷ 4 ∷ 5 ∷ [])
     ∷ []

@@ -19,10 +19,11 @@ use Rattle.change.specs.Change.{ChangeOf, node_change, encryption_schedule, none
 use Rattle.internal_contrib.specs.InternalContrib.{ContribOf}
 use Rattle.fault_log.specs.declared.Fault.{Fault}
 use Rattle.reference.specs.Reference.{PartRef, CandidateRef, RefState}
-use Rattle.reference.specs.Winner.{Carry, Wins, NonePast}
+use Rattle.reference.specs.Winner.{voters_for, Carry, Wins}
 use Rattle.reference.specs.Terms.{Ready, Unready}
 use Rattle.reference.specs.Step.{ref_contribs, is_candidate_ref, ref_winner, ref_decide, ref_row5, ref_row7, ref_steps, ref_batch}
-use Rattle.reference.proofs.WinnerLaws.{carry_is, wins_first, none_first}
+use Rattle.reference.proofs.VotersLaws.{carry_is}
+use Rattle.reference.proofs.WinnerLaws.{wins_first, none_first}
 use Rattle.reference.proofs.ReadyLaws.{ready_true, none_ready}
 
 -- the test of row 5
@@ -48,7 +49,7 @@ module _ (z : Sizes) (s : RefState) (inner : ℕ) (cs : List ContribOf) (fits : 
     winner_now : (c : ChangeOf) → Wins (max_faulty (length t.nodes)) t.votes c → ref_winner t ≡ found c
     winner_now c h = wins_first (max_faulty (length t.nodes)) t.votes c h
 
-    nobody_now : NonePast (max_faulty (length t.nodes)) t.votes → ref_winner t ≡ nothing
+    nobody_now : ((c : ChangeOf) → voters_for c t.votes ≤ max_faulty (length t.nodes)) → ref_winner t ≡ nothing
     nobody_now h = none_first (max_faulty (length t.nodes)) t.votes h
 
     -- "If ready, the candidate map takes effect, key generation ends and a new era, batch epoch + 1, begins; report `Complete`", whatever has won; 02, CR 7: nobody is listed, even if votes pass f
@@ -142,7 +143,7 @@ module _ (z : Sizes) (s : RefState) (inner : ℕ) (cs : List ContribOf) (fits : 
       schedule_completes x h ids k = rw (open_to_7, committed, none_ready t.candidate unready, winner_now (encryption_schedule x) h, ← carry_is (encryption_schedule x) k)
 
       -- "Otherwise report `None`", and nobody, even if there are votes: nothing but the votes and key messages has changed the state
-      pub nothing_wins : NonePast (max_faulty (length t.nodes)) t.votes
+      pub nothing_wins : ((c : ChangeOf) → voters_for c t.votes ≤ max_faulty (length t.nodes))
           → ref_batch z s inner cs
           ≡ record {
             state = record { era = t.era; nodes = t.nodes; params = t.params; votes = t.votes; candidate = t.candidate };

@@ -1,4 +1,7 @@
+pub mod VotersLaws
+pub mod BeatsLaws
 pub mod WinnerLaws
+pub mod EngineLaws
 pub mod VoteLaws
 pub mod MessageLaws
 pub mod PartLaws

@@ -23,7 +23,7 @@ use Rattle.fault_log.specs.declared.PartFault.TheVariants.{RowCount, MultiplePar
 use Rattle.fault_log.specs.declared.AckFault.TheVariants.{ValueCount, MissingPart}
 use Rattle.fault_log.specs.declared.Fault.{Fault}
 use Rattle.reference.specs.Reference.{PartRef, CandidateRef, RefState}
-use Rattle.reference.specs.Winner.{first_past, ids_for}
+use Rattle.reference.specs.Winner.{most_support, ids_for}
 
 -- a batch in the making: the state so far, and the faults in order of arising
 pub record RefWork : Type 0 where
@@ -188,9 +188,9 @@ ref_elected era s (found (encryption_schedule x)) =
 -- Step 8. Otherwise report `None`, and nobody, even if there are votes.
 ref_elected era s nothing = decided_ref s none []
 
--- a winner has more than f voters, f of the current map
+-- who wins, f of the current map
 abbrev pub ref_winner : RefState → Found ChangeOf
-ref_winner s = first_past (max_faulty (length s.nodes)) s.votes
+ref_winner s = most_support (max_faulty (length s.nodes)) s.votes
 
 unfoldable pub ref_decide : ℕ → RefState → RefDecided
 ref_decide era s = cond (ref_ready s.candidate) (ref_completed era s s.candidate) (ref_elected era s (ref_winner s))

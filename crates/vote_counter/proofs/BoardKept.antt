@@ -47,7 +47,7 @@ board_kept true vs us rs same e = refl
 board_kept false vs us rs same e = e ∙ ap worked_out (sym (same refl))
 
 -- whose vote is stored is in the map: a voter without the key that signed is a fault
-stored_member : (z : Sizes) (c : CounterOf) (v : SignedVoteOf) → vote_effect c.era c.nodes c.committed v ≡ stored → is_member c.nodes (voter_of v) ≡ true
+pub stored_member : (z : Sizes) (c : CounterOf) (v : SignedVoteOf) → vote_effect c.era c.nodes c.committed v ≡ stored → is_member c.nodes (voter_of v) ≡ true
 unfolding add_committed valid_vote
 stored_member z c v e = go (is_key v.sig (key_of c.nodes v.voter)) refl
   where

@@ -17,7 +17,8 @@ use Rattle.change.specs.Change.{ChangeOf, same_change}
 use Rattle.votes.specs.Votes.{SignedVoteOf}
 use Rattle.signed_votes.specs.SignedVotes.{voter_of}
 use Rattle.signed_votes.proofs.VotesLaws.{AscendsFrom}
-use Rattle.winner.specs.Board.{Cast, board}
+use Rattle.winner.specs.Support.{Cast}
+use Rattle.winner.specs.Board.{board}
 use Rattle.board.specs.Board.{cast_of, kept_row, worked_out}
 use Rattle.vote_counter.specs.VoteCounter.{CounterOf, with_committed, VoteEffect, stored, nothing_new, fault, vote_effect, committed_by, added_to, add_committed}
 use Rattle.vote_counter.proofs.BoardKept.{Kept, committed_kept}

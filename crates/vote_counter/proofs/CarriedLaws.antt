@@ -1,6 +1,6 @@
 -- 02, CR 7: "In a counter as in CR 3 its length is greater than f, at most n, and each listed voter's stored vote is for that change when the winner is taken."
 -- Assumes nothing.
-use Prim.Native.Nat.{ℕ, ◌+◌, ◌≤◌, ◌<◌}
+use Prim.Native.Nat.{ℕ, ◌+◌, ◌<◌}
 use mathlib.Core.Path.{◌≡◌, refl, sym, ap, subst, ◌∙◌}
 use mathlib.Core.List.{List, [], ◌∷◌, map}
 use mathlib.Core.Bool.{Bool, true, false, cond}
@@ -19,24 +19,18 @@ use Rattle.change.proofs.ChangeLaws.{change_true, change_refl}
 use Rattle.votes.specs.Votes.{SignedVoteOf}
 use Rattle.signed_votes.specs.SignedVotes.{voter_of}
 use Rattle.signed_votes.proofs.VotesLaws.{AscendsFrom}
-use Rattle.winner.specs.Winner.{support}
-use Rattle.winner.specs.Board.{Cast, choices, supporters}
+use Rattle.winner.specs.Support.{support, Cast, supporters}
 use Rattle.winner.specs.BoardTerms.{Among}
 use Rattle.winner.proofs.AmongLaws.{all_one}
-use Rattle.winner.proofs.SupporterLaws.{supporters_counted, supporter_cast, cast_supporter}
+use Rattle.winner.proofs.SupporterLaws.{ascend_lower, supporters_counted, supporter_cast, cast_supporter}
 use Rattle.board.specs.Board.{cast_of}
 use Rattle.board.proofs.HandedLaws.{ascending_unrepeated}
 use Rattle.vote_counter.specs.VoteCounter.{CounterOf, new_counter, compute_winner, supporters_of, CarriedOf, carried_by, carried}
 use Rattle.vote_counter.specs.Calls.{CounterCall, after_calls}
 use Rattle.vote_counter.specs.Carried.{Carries}
-use Rattle.vote_counter.proofs.CounterLaws.{winner_more}
+use Rattle.vote_counter.proofs.CounterLaws.{choices_are, winner_more}
 use Rattle.vote_counter.proofs.MemberLaws.{few_keyed}
 use Rattle.vote_counter.proofs.BoardKept.{Kept, new_kept, calls_kept}
-
--- the choices of votes as casts
-choices_are : (vs : List SignedVoteOf) → choices (map cast_of vs) ≡ map (λ v. v.vote.change) vs
-choices_are [] = refl
-choices_are (v ∷ vs) = ap (λ (xs : List ChangeOf). v.vote.change ∷ xs) (choices_are vs)
 
 -- a change has as many voters as it has support
 pub voters_counted : (vs : List SignedVoteOf) (x : ChangeOf) → length (supporters_of vs x) ≡ support same_change x (map (λ v. v.vote.change) vs)
@@ -44,7 +38,7 @@ unfolding supporters_of
 voters_counted vs x = supporters_counted same_change x (map cast_of vs) ∙ ap (support same_change x) (choices_are vs)
 
 -- its voters ascend where all do
-supporters_ascend : (x : ChangeOf) (low : ℕ) (vs : List SignedVoteOf) → AscendsFrom voter_of low vs → AscendsFrom (λ (i : ℕ). i) low (supporters same_change x (map cast_of vs))
+pub supporters_ascend : (x : ChangeOf) (low : ℕ) (vs : List SignedVoteOf) → AscendsFrom voter_of low vs → AscendsFrom (λ (i : ℕ). i) low (supporters same_change x (map cast_of vs))
 unfolding supporters
 supporters_ascend x low [] a = tt
 supporters_ascend x low (v ∷ vs) a = go (same_change v.vote.change x) (supporters_ascend x (voter_of v + 1) vs a.1)
@@ -52,13 +46,9 @@ supporters_ascend x low (v ∷ vs) a = go (same_change v.vote.change x) (support
     ids : List ℕ
     ids = supporters same_change x (map cast_of vs)
 
-    lower : (k m : ℕ) → m ≤ k → (ns : List ℕ) → AscendsFrom (λ (i : ℕ). i) k ns → AscendsFrom (λ (i : ℕ). i) m ns
-    lower k m h [] s = tt
-    lower k m h (n ∷ ns) s = let l = s.0 in (omega (arith, h, l), s.1)
-
     go : (b : Bool) → AscendsFrom (λ (i : ℕ). i) (voter_of v + 1) ids → AscendsFrom (λ (i : ℕ). i) low (cond b (voter_of v ∷ ids) ids)
     go true s = (a.0, s)
-    go false s = let l = a.0 in lower (voter_of v + 1) low (omega (arith, l)) ids s
+    go false s = let l = a.0 in ascend_lower ids (voter_of v + 1) low (omega (arith, l)) s
 
 -- what holds of every voter holds of those of a change
 supporters_all : (P : ℕ → Type 0) (x : ChangeOf) (vs : List SignedVoteOf) → All (λ (v : SignedVoteOf). P (voter_of v)) vs → All P (supporters same_change x (map cast_of vs))

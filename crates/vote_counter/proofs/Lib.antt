@@ -10,3 +10,5 @@ pub mod OnceLaws
 pub mod BoardKept
 pub mod BoardPage
 pub mod NumberFirst
+pub mod OrderLaws
+pub mod MostLaws

@@ -3,3 +3,4 @@ pub mod Answers
 pub mod Calls
 pub mod Carried
 pub mod NumberFirst
+pub mod MostSupport

@@ -12,7 +12,7 @@ use Rattle.change.specs.Change.{ChangeOf, same_change}
 use Rattle.votes.specs.Votes.{SignedVoteOf}
 use Rattle.signed_votes.specs.SignedVotes.{voter_of, num_of, votes_of, no_votes}
 use Rattle.winner.specs.Winner.{winner, winner_place}
-use Rattle.winner.specs.Board.{supporters}
+use Rattle.winner.specs.Support.{supporters}
 use Rattle.board.specs.declared.BoardRow.{BoardRow}
 use Rattle.board.specs.Board.{rows_of, no_board, cast_of, worked_out, StandingOf, standing_at}
 use Rattle.fault_log.specs.declared.FaultKind.{FaultKind}
@@ -144,13 +144,13 @@ newer c v = cond (obsolete c.committed v) false true
 unfoldable pub pending_votes : CounterOf → List SignedVoteOf
 pending_votes c = filter (newer c) c.pending
 
--- step 7: the winner among the committed votes, by ascending voter
+-- step 7: the winner among the committed votes, f of the current map (02, CR 8)
 unfoldable pub compute_winner : CounterOf → Found ChangeOf
-compute_winner c = winner same_change (max_faulty (length c.nodes)) (map (λ v. v.vote.change) c.committed)
+compute_winner c = winner same_change (max_faulty (length c.nodes)) (map cast_of c.committed)
 
--- the place of the winning voter among them: that at which counting stops, not another that chose the same
+-- the place of the first vote for it: its lowest voter's, since votes stand by ascending voter
 unfoldable pub winner_at : CounterOf → Found ℕ
-winner_at c = winner_place same_change (max_faulty (length c.nodes)) (map (λ v. v.vote.change) c.committed)
+winner_at c = winner_place same_change (max_faulty (length c.nodes)) (map cast_of c.committed)
 
 -- 02, CR 7: "all voters then supporting it": those whose stored vote is for a change, of earlier batches of the era too, in the order of the votes, so by ascending id
 unfoldable pub supporters_of : List SignedVoteOf → ChangeOf → List ℕ

@@ -17,7 +17,7 @@ ghost use Rattle.vote_counter.specs.VoteCounter.{signed_with, sign_vote_for, pen
 ghost use Rattle.vote_counter.specs.Answers.{added_of, committed_of, signed_answer, SignRefusedKeeps, carried_of};
 
 use bincode::Refusal;
-use board::{Board, Standing};
+use board::{Board, BoardRow, Standing};
 use change::Change;
 use fault_log::FaultKind;
 use pub_key_map::PubKeyMap;
@@ -65,7 +65,7 @@ pub struct VoteSigned {
     pub outcome: Result<SignedVote, Refusal>,
 }
 
-// The winner: the place of the voter at whom counting stops, and all voters whose vote is for that voter's change.
+// The winner: the place of the first vote for it, its lowest voter's since votes stand by ascending voter; and all voters whose vote is for it.
 #[derive(Clone, Copy)]
 pub struct Winner {
     pub place: usize,
@@ -260,31 +260,39 @@ impl VoteCounter {
         board.standing(committed, place)
     }
 
-    // The first voter, by ascending id, whose change more than f voters up to there have chosen; its place is one of the votes.
+    // The place of the first vote for the winner. Each change is counted at its first vote, and takes over where its row stands before the best so far; the first has to pass f.
     fn winning_place(&self) -> Option<usize>
         ensures { (option_as_found (λ (x : ℕ). x) result ≡ winner_at (counter_of self.now))
             × ((i : ℕ) → result ≡ Some i → i < length (votes_of self.now.committed)) }
     {
         let f = network_info::num_faulty(self.pub_keys);
         let committed = self.committed.votes.as_slice();
+        let mut best = BoardRow { voter: 0, count: f };
         let mut won = None;
         'voters: for (i, x) in committed.iter().enumerate() {
             let change = x.vote.change;
-            let mut count: usize = 0;
-            for other in &committed[..=i] {
+            let mut row = BoardRow {
+                voter: x.voter,
+                count: 0,
+            };
+            for (j, other) in committed.iter().enumerate() {
                 if other.is_for(change) {
-                    count += 1;
-                    if f < count {
-                        won = Some(i);
-                        break 'voters;
+                    if j < i {
+                        continue 'voters;
                     }
+                    row.count += 1;
+                    row.voter = row.voter.min(other.voter);
                 }
+            }
+            if board::is_before(row, best) {
+                best = row;
+                won = Some(i);
             }
         }
         won
     }
 
-    // Who has won, told by the place of a vote for the winning change, with all who carried it: also those behind that place, and those of earlier batches.
+    // Who has won, told by the place of the first vote for it, with all who carried it, those of earlier batches too.
     pub fn compute_winner(&self) -> Option<Winner>
         ensures { (option_as_found (carried_of (votes_of self.now.committed)) result ≡ carried (counter_of self.now))
             × (option_as_found (λ (w : Winner). w.place) result ≡ winner_at (counter_of self.now))

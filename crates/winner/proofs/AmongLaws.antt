@@ -1,16 +1,18 @@
 -- What is one of a list, what holds of each of a list, how many numbers can be of one, and the lowest of some numbers.
 -- Assumes nothing.
-use Prim.Native.Nat.{ℕ, suc, ◌≤◌, min}
+use Prim.Native.Nat.{ℕ, zero, suc, ◌≤◌, ◌<◌, min}
 use mathlib.Core.Path.{◌≡◌, refl, sym, ap, subst, ◌∙◌}
-use mathlib.Core.List.{List, [], ◌∷◌, map}
+use mathlib.Core.List.{List, [], ◌∷◌, ◌++◌, map}
 use mathlib.Core.Bool.{Bool, true, false, cond}
 use mathlib.Core.Logic.{◌⊎◌, inl, inr, ⊎_elim}
 use native.Mathlib.Omega.{arith}
 use lib.Dec.{ltb, eqb}
-use lib.ListN.{length}
+use lib.ListN.{length, take, get_or}
 use borrow.Author.Tests.{ltb-true, ltb-false, eqb-true, eqb-false}
+use Rattle.lists.specs.Lists.{filter}
+use Rattle.lists.proofs.ListLaws.{false_true}
 use Rattle.bincode.specs.Stands.{All}
-use Rattle.winner.specs.Board.{least_with}
+use Rattle.winner.specs.Support.{least_with}
 use Rattle.winner.specs.BoardTerms.{Among, Unrepeated, Lowest}
 
 module _ {A : Type 0} (P : A → Type 0) where
@@ -19,10 +21,37 @@ module _ {A : Type 0} (P : A → Type 0) where
   all_one [] ps x m = absurd m
   all_one (y ∷ ys) ps x m = ⊎_elim (λ (e : x ≡ y). subst P (sym e) ps.0) (λ (n : Among x ys). all_one ys ps.1 x n) m
 
+  -- what holds of each of two parts holds of each
+  pub all_both : (xs ys : List A) → All P xs → All P ys → All P (xs ++ ys)
+  all_both [] ys ps qs = qs
+  all_both (x ∷ xs) ys ps qs = (ps.0, all_both xs ys ps.1 qs)
+
+  -- what holds of each holds of each of a second part
+  pub all_behind : (xs ys : List A) → All P (xs ++ ys) → All P ys
+  all_behind [] ys ps = ps
+  all_behind (x ∷ xs) ys ps = all_behind xs ys ps.1
+
+  -- what holds of each holds of those of which a test holds
+  pub all_filter : (p : A → Bool) (xs : List A) → All P xs → All P (filter p xs)
+  unfolding filter
+  all_filter p [] a = tt
+  all_filter p (x ∷ xs) a = go (p x) (all_filter p xs a.1)
+    where
+      go : (b : Bool) → All P (filter p xs) → All P (cond b (x ∷ filter p xs) (filter p xs))
+      go true r = (a.0, r)
+      go false r = r
+
 -- what follows for one element follows for each
 pub all_follows : {A : Type 0} (P Q : A → Type 0) → ((a : A) → P a → Q a) → (xs : List A) → All P xs → All Q xs
 all_follows P Q f [] ps = tt
 all_follows P Q f (x ∷ xs) ps = (f x ps.0, all_follows P Q f xs ps.1)
+
+-- the element at a place is among the first
+pub among_place : {A : Type 0} (xs : List A) (k i : ℕ) (z : A) → k < i → k < length xs → Among (get_or xs k z) (take i xs)
+among_place [] k i z h l = absurd (let y : ⊥ = omega arith in y)
+among_place (x ∷ xs) k zero z h l = absurd (let y : ⊥ = omega arith in y)
+among_place (x ∷ xs) zero (suc i) z h l = inl refl
+among_place (x ∷ xs) (suc k) (suc i) z h l = inr (among_place xs k i z (omega arith) (omega arith))
 
 module _ {A B : Type 0} (f : A → B) where
   -- what one of a list stands for is among what the list stands for
@@ -34,6 +63,26 @@ module _ {A B : Type 0} (f : A → B) where
   pub all_map : (P : B → Type 0) (xs : List A) → All (λ (x : A). P (f x)) xs → All P (map f xs)
   all_map P [] ps = tt
   all_map P (x ∷ xs) ps = (ps.0, all_map P xs ps.1)
+
+module _ {A : Type 0} (p : A → Bool) where
+  -- those of which a test holds: one of them is one of all, and the test holds of it
+  pub filter_among : (x : A) (xs : List A) → Among x (filter p xs) → Among x xs × (p x ≡ true)
+  unfolding filter
+  filter_among x [] m = absurd m
+  filter_among x (y ∷ ys) m = go (p y) refl m (filter_among x ys)
+    where
+      go : (b : Bool) → p y ≡ b → Among x (cond b (y ∷ filter p ys) (filter p ys)) → (Among x (filter p ys) → Among x ys × (p x ≡ true)) → ((x ≡ y) ⊎ Among x ys) × (p x ≡ true)
+      go true t m ih = ⊎_elim (λ (e : x ≡ y). (inl e, ap p e ∙ t)) (λ (n : Among x (filter p ys)). let r = ih n in (inr r.0, r.1)) m
+      go false t m ih = let r = ih m in (inr r.0, r.1)
+
+  pub among_filter : (x : A) (xs : List A) → Among x xs → p x ≡ true → Among x (filter p xs)
+  unfolding filter
+  among_filter x [] m t = absurd m
+  among_filter x (y ∷ ys) m t = go (p y) refl m (λ n. among_filter x ys n t)
+    where
+      go : (b : Bool) → p y ≡ b → (x ≡ y) ⊎ Among x ys → (Among x ys → Among x (filter p ys)) → Among x (cond b (y ∷ filter p ys) (filter p ys))
+      go true u m ih = ⊎_elim (λ (e : x ≡ y). inl e) (λ (n : Among x ys). inr (ih n)) m
+      go false u m ih = ⊎_elim (λ (e : x ≡ y). absurd (false_true (sym u ∙ ap p (sym e) ∙ t))) ih m
 
 -- the lower of two numbers is one of them
 min_one : (n m : ℕ) → (min n m ≡ n) ⊎ (min n m ≡ m)

@@ -11,8 +11,8 @@ use borrow.Author.Tests.{ltb-true, ltb-false}
 use Rattle.bincode.specs.Stands.{All}
 use Rattle.lists.specs.Lists.{lookup, found}
 use Rattle.lists.proofs.ListLaws.{false_true}
-use Rattle.winner.specs.Winner.{support}
-use Rattle.winner.specs.Board.{Cast, Row, choices, voters, lowest, first_choices, row_for, board}
+use Rattle.winner.specs.Support.{support, Cast, choices, voters, lowest}
+use Rattle.winner.specs.Board.{Row, first_choices, row_for, board}
 use Rattle.winner.specs.BoardTerms.{Among, Unrepeated, Before, Ordered, RowOf, RowsOf, IsBoard}
 use Rattle.winner.proofs.AmongLaws.{all_one, all_follows, all_map, among_map}
 use Rattle.winner.proofs.BoardOrder.{in_order_all, in_order_among}
@@ -42,7 +42,7 @@ module _ {A : Type 0} (eq : A → A → Bool) (eq-true : (x y : A) → eq x y �
       rows = all_follows (λ (x : A). 0 < support eq x (choices vs)) (λ (x : A). RowOf eq vs (row_for eq vs x)) (row_for_of eq vs) xs (first_supported eq eq_refl [] (choices vs))
 
   -- where no voter is repeated, the rows of two choices have different lowest voters, so one stands before the other
-  rows_apart : (vs : List (Cast A)) → Unrepeated (voters vs) → (x y : A) → 0 < support eq x (choices vs) → 0 < support eq y (choices vs) → eq x y ≡ false
+  pub rows_apart : (vs : List (Cast A)) → Unrepeated (voters vs) → (x y : A) → 0 < support eq x (choices vs) → 0 < support eq y (choices vs) → eq x y ≡ false
       → Apart (row_for eq vs x) (row_for eq vs y)
   rows_apart vs u x y h k n = go (ltb i j) refl (ltb j i) refl (ltb (lowest eq x vs) (lowest eq y vs)) refl
     where

@@ -5,8 +5,8 @@ use mathlib.Core.Path.{◌≡◌, refl, sym, ap, subst, ◌∙◌}
 use mathlib.Core.List.{List}
 use mathlib.Core.Bool.{Bool}
 use native.Mathlib.Omega.{arith}
-use Rattle.winner.specs.Winner.{support}
-use Rattle.winner.specs.Board.{Cast, Row, choices, supporters, row_for}
+use Rattle.winner.specs.Support.{support, Cast, choices, supporters}
+use Rattle.winner.specs.Board.{Row, row_for}
 use Rattle.winner.specs.BoardTerms.{Among, Lowest, RowOf, RowsOf}
 use Rattle.winner.proofs.AmongLaws.{all_one, lowest_one}
 use Rattle.winner.proofs.SupporterLaws.{lowest_supporter}
@@ -16,9 +16,12 @@ row_is : {A : Type 0} (r q : Row A) → r.choice ≡ q.choice → r.count ≡ q.
 row_is r q e f g = λ i. record { choice = e i; count = f i; lowest = g i }
 
 module _ {A : Type 0} (eq : A → A → Bool) (vs : List (Cast A)) where
-  -- the row of a choice with support is a row of the votes
+  -- the row of a choice counts its voters; with support it is a row of the votes
+  pub row_counts : (x : A) → (row_for eq vs x).count ≡ support eq x (choices vs)
+  row_counts x = refl
+
   pub row_for_of : (x : A) → 0 < support eq x (choices vs) → RowOf eq vs (row_for eq vs x)
-  row_for_of x h = record { some = h; counts = refl; least_voter = lowest_supporter eq x vs h }
+  row_for_of x h = record { some = omega (arith, h, row_counts x); counts = row_counts x; least_voter = lowest_supporter eq x vs h }
 
   -- a row of the votes is told by its choice
   pub row_one : (r q : Row A) → RowOf eq vs r → RowOf eq vs q → r.choice ≡ q.choice → r ≡ q

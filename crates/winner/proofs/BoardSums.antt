@@ -10,9 +10,9 @@ use lib.ListN.{length, length-map}
 use borrow.Author.Tests.{eqb-true, eqb-false, ne_eqb}
 use Rattle.lists.proofs.ListLaws.{false_true}
 use Rattle.bincode.specs.Stands.{All}
-use Rattle.winner.specs.Winner.{support}
-use Rattle.winner.specs.Board.{Cast, Row, choices, sum, first_choices, row_for, board}
-use Rattle.winner.proofs.WinnerLaws.{support_append}
+use Rattle.winner.specs.Support.{support, Cast, choices}
+use Rattle.winner.specs.Board.{Row, sum, first_choices, row_for, board}
+use Rattle.winner.proofs.SupportLaws.{support_append}
 use Rattle.winner.proofs.BoardOrder.{length_in_order, in_order_sum}
 use Rattle.winner.proofs.FirstChoices.{first_few, first_other}
 

@@ -10,11 +10,11 @@ use lib.Dec.{eqb}
 use lib.ListN.{length}
 use borrow.Author.Tests.{eqb-true, eq-eqb}
 use Rattle.bincode.specs.Stands.{All}
-use Rattle.winner.specs.Winner.{support}
+use Rattle.winner.specs.Support.{support}
 use Rattle.winner.specs.Board.{first_choices}
 use Rattle.winner.specs.BoardTerms.{Among}
 use Rattle.winner.proofs.AmongLaws.{all_follows}
-use Rattle.winner.proofs.WinnerLaws.{support_append}
+use Rattle.winner.proofs.SupportLaws.{support_append}
 
 module _ {A : Type 0} (eq : A → A → Bool) where
   -- no more than there are

@@ -10,12 +10,12 @@ use lib.Dec.{eqb}
 use lib.ListN.{length, take, drop, get_or}
 use lib.Seq.{take-suc, drop-cons, split_at}
 use Rattle.lists.proofs.ListLaws.{rest_none}
-use Rattle.winner.specs.Winner.{support}
-use Rattle.winner.specs.Board.{Cast, choices, least_with, supporters, lowest, first_choices}
+use Rattle.winner.specs.Support.{support, Cast, choices, least_with, supporters, lowest}
+use Rattle.winner.specs.Board.{first_choices}
 use Rattle.winner.proofs.SupporterLaws.{supporters_append, next_supporter}
 
 -- one number more
-least_more : (n : ℕ) (ns : List ℕ) (m : ℕ) → least_with n (ns ++ (m ∷ [])) ≡ min (least_with n ns) m
+pub least_more : (n : ℕ) (ns : List ℕ) (m : ℕ) → least_with n (ns ++ (m ∷ [])) ≡ min (least_with n ns) m
 least_more n [] m = refl
 least_more n (k ∷ ns) m = least_more (min n k) ns m
 

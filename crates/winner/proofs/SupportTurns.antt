@@ -1,15 +1,15 @@
 -- Turns of a loop that counts the voters of a choice.
 -- Assumes nothing.
-use Prim.Native.Nat.{ℕ, ◌+◌, ◌-◌, ◌≤◌, ◌<◌}
+use Prim.Native.Nat.{ℕ, ◌+◌, ◌<◌}
 use mathlib.Core.Path.{◌≡◌}
 use mathlib.Core.List.{List, [], ◌∷◌}
 use mathlib.Core.Bool.{Bool, true, false, cond}
 use native.Mathlib.Omega.{arith}
 use native.Mathlib.Numerals.{add-one}
-use lib.ListN.{length, take, drop, get_or}
-use lib.Seq.{take-suc, take-add}
-use Rattle.winner.specs.Winner.{support}
-use Rattle.winner.proofs.WinnerLaws.{support_append}
+use lib.ListN.{length, take, get_or}
+use lib.Seq.{take-suc}
+use Rattle.winner.specs.Support.{support}
+use Rattle.winner.proofs.SupportLaws.{support_append}
 
 module _ {A : Type 0} (eq : A → A → Bool) (xs : List A) where
   -- one more choice is counted
@@ -23,9 +23,3 @@ module _ {A : Type 0} (eq : A → A → Bool) (xs : List A) where
 
     pub count_no : eq (get_or xs j z) x ≡ false → support eq x (take (j + 1) xs) ≡ support eq x (take j xs)
     count_no e = omega (arith, rw e at one_more)
-
-  -- counting further finds no fewer
-  pub count_further : (x : A) (j k : ℕ) → j ≤ k → support eq x (take j xs) ≤ support eq x (take k xs)
-  count_further x j k l =
-      let e : k ≡ j + (k - j) = omega arith in
-      rw (e, take-add j (k - j) xs, support_append eq x (take j xs) (take (k - j) (drop j xs))) (omega arith)

@@ -1,6 +1,6 @@
 -- The voters that have a choice: how many they are, the lowest of them, and the choice that each of them has.
 -- Assumes nothing.
-use Prim.Native.Nat.{ℕ, ◌+◌, ◌<◌}
+use Prim.Native.Nat.{ℕ, ◌+◌, ◌≤◌, ◌<◌}
 use mathlib.Core.Path.{◌≡◌, refl, sym, ap, ◌∙◌}
 use mathlib.Core.List.{List, [], ◌∷◌, ◌++◌}
 use mathlib.Core.Bool.{Bool, true, false, cond}
@@ -11,16 +11,21 @@ use lib.Dec.{eqb}
 use lib.ListN.{length, take, get_or}
 use lib.Seq.{take-suc}
 use borrow.Author.Tests.{eqb-true, eqb-false}
+use Rattle.bincode.specs.Stands.{Each}
 use Rattle.lists.specs.Lists.{Found, found, nothing, lookup}
 use Rattle.lists.proofs.ListLaws.{false_true, found_same, not_found}
-use Rattle.winner.specs.Winner.{support}
-use Rattle.winner.specs.Board.{Cast, choices, voters, least, supporters, lowest}
+use Rattle.winner.specs.Support.{support, Cast, choices, voters, least, supporters, lowest}
 use Rattle.winner.specs.BoardTerms.{Among, Unrepeated, Lowest}
 use Rattle.winner.proofs.AmongLaws.{least_with_lem}
 
 -- a vote is told by its voter and its choice
 cast_is : {A : Type 0} (v : Cast A) (n : ℕ) (x : A) → v.voter ≡ n → v.choice ≡ x → v ≡ record { voter = n; choice = x }
 cast_is v n x e f = rw (← e, ← f)
+
+-- ids that ascend from a bound on ascend from a lower one on
+pub ascend_lower : (ids : List ℕ) (least low : ℕ) → low ≤ least → Each (λ (l : ℕ) (id : ℕ). id + 1) (λ l id. l ≤ id) least ids → Each (λ (l : ℕ) (id : ℕ). id + 1) (λ l id. l ≤ id) low ids
+ascend_lower [] least low h s = tt
+ascend_lower (id ∷ ids) least low h s = let l = s.0 in (omega (arith, h, l), s.1)
 
 -- the choice of a vote that is found
 abbrev choice_in : {A : Type 0} → A → Found (Cast A) → A

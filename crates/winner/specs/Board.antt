@@ -1,33 +1,12 @@
 -- 02, CR 3: the board. One row for each choice that a voter has, with the number of its voters; largest number first, equal numbers by lowest supporting voter.
-use Rattle.std.specs.Prelude.{ℕ, ◌+◌, min, List, [], ◌∷◌, ◌++◌, map, Bool, true, false, cond, ltb, eqb}
-use Rattle.winner.specs.Winner.{support}
-
--- a voter and its choice
-pub record Cast (A : Type 0) : Type 0 where
-  pub voter : ℕ
-  pub choice : A
+use Rattle.std.specs.Prelude.{ℕ, ◌+◌, List, [], ◌∷◌, ◌++◌, map, Bool, true, false, cond, ltb, eqb}
+use Rattle.winner.specs.Support.{Cast, choices, support, lowest}
 
 -- a row of the board: a choice, how many voters have it, and the lowest of them
 pub record Row (A : Type 0) : Type 0 where
   pub choice : A
   pub count : ℕ
   pub lowest : ℕ
-
-module _ {A : Type 0} where
-  abbrev pub choices : List (Cast A) → List A
-  choices vs = map (λ v. v.choice) vs
-
-  abbrev pub voters : List (Cast A) → List ℕ
-  voters vs = map (λ v. v.voter) vs
-
--- the lowest of some numbers, 0 where there is none
-abbrev pub least_with : ℕ → List ℕ → ℕ
-least_with n [] = n
-least_with n (m ∷ ms) = least_with (min n m) ms
-
-abbrev pub least : List ℕ → ℕ
-least [] = 0
-least (n ∷ ns) = least_with n ns
 
 -- numbers added up
 abbrev pub sum : List ℕ → ℕ
@@ -52,15 +31,6 @@ module _ {R : Type 0} (count lowest : R → ℕ) where
 
 -- over any kind of choice with an equality test
 module _ {A : Type 0} (eq : A → A → Bool) where
-  -- the voters that have a choice, in the order of the list
-  unfoldable pub supporters : A → List (Cast A) → List ℕ
-  supporters x [] = []
-  supporters x (v ∷ vs) = cond (eq v.choice x) (v.voter ∷ supporters x vs) (supporters x vs)
-
-  -- the lowest of them, 0 where there is none
-  unfoldable pub lowest : A → List (Cast A) → ℕ
-  lowest x vs = least (supporters x vs)
-
   -- each choice once: where nobody before has it
   unfoldable pub first_choices : List A → List A → List A
   first_choices seen [] = []
@@ -68,7 +38,7 @@ module _ {A : Type 0} (eq : A → A → Bool) where
 
   -- the row of a choice
   abbrev pub row_for : List (Cast A) → A → Row A
-  row_for vs x = record { choice = x; count = support eq x (choices vs); lowest = lowest x vs }
+  row_for vs x = record { choice = x; count = support eq x (choices vs); lowest = lowest eq x vs }
 
   -- the board of some votes: the rows of all choices, in order
   unfoldable pub board : List (Cast A) → List (Row A)

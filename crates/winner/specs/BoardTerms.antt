@@ -1,8 +1,8 @@
 -- The terms in which the laws of the board are said, as propositions; the board's definition uses none of them.
 use Rattle.std.specs.Prelude.{ℕ, ◌≤◌, ◌<◌, ◌≡◌, List, [], ◌∷◌, Bool, ◌⊎◌}
 use Rattle.bincode.specs.Stands.{All}
-use Rattle.winner.specs.Winner.{support}
-use Rattle.winner.specs.Board.{Cast, Row, choices, supporters}
+use Rattle.winner.specs.Support.{support, Cast, choices, supporters}
+use Rattle.winner.specs.Board.{Row}
 
 -- x is one of a list
 abbrev pub Among : {A : Type 0} → A → List A → Type 0

@@ -1,3 +1,6 @@
-pub mod Winner
+pub mod Support
+pub mod FirstPast
 pub mod Board
+pub mod Winner
 pub mod BoardTerms
+pub mod WinnerTerms

@@ -8,7 +8,7 @@ use Rattle.voters.specs.Voters.{ids_of}
 use Rattle.change.specs.Change.{change_of, same_change}
 use Rattle.votes.specs.declared.SignedVote.{SignedVote}
 use Rattle.votes.specs.Votes.{signed_of}
-use Rattle.winner.specs.Board.{supporters}
+use Rattle.winner.specs.Support.{supporters}
 use Rattle.board.specs.Board.{cast_of}
 use Rattle.vote_counter.specs.VoteCounter.{supporters_of}
 use Rattle.vote_counter.proofs.CarriedTurns.{listed_start, listed_yes, listed_no, listed_end}
