@@ -3,12 +3,17 @@
 // parts one behind the other.
 #![tactic(auto)]
 
+ghost use Rattle.std.specs.Prelude.{◌≤◌};
+
 use due::DueList;
 use dynamic_honey_badger::DynamicHoneyBadger;
 use fault_log::FaultLog;
 use process_output::Agreed;
 use std::io;
 use std::io::Read;
+
+// The longest input: two batches of the greatest length, a map, params. What stands behind is not read.
+pub const INPUT: usize = 132000;
 
 // How many batches are taken, at most.
 const TURNS: u64 = 1000000000;
@@ -17,8 +22,22 @@ const TURNS: u64 = 1000000000;
 const VERDICTS: usize = 1024;
 
 // The number at a place of the input; 0 where there is none.
-fn number(s: &[u8], at: usize) -> u64 {
+fn read(s: &[u8], at: usize) -> u64 {
     bincode::read_u64(s, at).map_or(0, |(x, _)| x)
+}
+
+// The same, at most the longest input's length.
+fn number(s: &[u8], at: usize) -> usize
+    ensures { result ≤ 132000 }
+{
+    read(s, at).min(INPUT as u64) as usize
+}
+
+// How many batches are taken, the opening one among them.
+fn turns(s: &[u8]) -> u64
+    ensures { result ≤ 1000000000 }
+{
+    read(s, 0).min(TURNS)
 }
 
 // The parts of the input, and the numbers that are no lengths of them.
@@ -59,20 +78,20 @@ fn part(s: &[u8], at: usize, n: usize) -> &[u8] {
 }
 
 fn input_of(s: &[u8]) -> Input<'_> {
-    let map = part(s, 56, number(s, 8) as usize);
+    let map = part(s, 56, number(s, 8));
     let mut at = 56 + map.len();
-    let params = part(s, at, number(s, 16) as usize);
+    let params = part(s, at, number(s, 16));
     at = at.saturating_add(params.len());
-    let opening = part(s, at, number(s, 24) as usize);
+    let opening = part(s, at, number(s, 24));
     at = at.saturating_add(opening.len());
     Input {
-        turns: number(s, 0).min(TURNS),
+        turns: turns(s),
         map,
         params,
         opening,
-        batch: part(s, at, number(s, 32) as usize),
-        verdicts: number(s, 40) as usize,
-        era: number(s, 48),
+        batch: part(s, at, number(s, 32)),
+        verdicts: number(s, 40),
+        era: number(s, 48) as u64,
     }
 }
 
@@ -113,7 +132,7 @@ fn bench(s: &[u8]) -> bool {
 
 fn main(rt: HostRuntime) -> io::Result<()> {
     let mut input = Vec::new(rt.alloc());
-    rt.stdin().read_to_end(&mut input)?;
+    rt.stdin().take(INPUT as u64).read_to_end(&mut input)?;
     let said = if bench(&input) {
         "all reported"
     } else {

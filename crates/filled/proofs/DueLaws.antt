@@ -9,8 +9,8 @@ use Rattle.std.specs.Prelude.{Some, None}
 use Rattle.due.specs.declared.DueKind.TheVariants.{Part}
 use Rattle.due.specs.declared.DueItem.{DueItem}
 use Rattle.due.specs.Due.{ack_item}
-use Rattle.filled.specs.Filled.{filled}
-use Rattle.filled.specs.Numbers.{due_kind, due_index, due_era, DueIn, owed}
+use Rattle.filled.specs.Filled.{filled, shorter}
+use Rattle.filled.specs.Numbers.{due_kind, due_index, due_era, DueIn, owed, due_places}
 use Rattle.filled.proofs.FillLaws.{filled_none, filled_next}
 
 pub due_none : (kinds indices eras : List ℕ) → DueIn [] kinds kinds indices indices eras eras
@@ -49,3 +49,7 @@ module _ (kinds kinds' indices indices' eras eras' : List ℕ) where
         behind due_index indices indices' indices'' (each due_index indices indices' i) b,
         behind due_era eras eras' eras'' (each due_era eras eras' e) c,
       )
+
+-- two comparisons give the number of places
+pub places_counted : (kinds indices eras : List ℕ) (m d : ℕ) → m ≡ shorter (length kinds) (length indices) → d ≡ shorter m (length eras) → d ≡ due_places kinds indices eras
+places_counted kinds indices eras m d e f = f ∙ ap (λ (k : ℕ). shorter k (length eras)) e

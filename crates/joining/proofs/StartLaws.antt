@@ -1,13 +1,13 @@
 -- Laws of starting and joining: empty maps, and what is passed on of the readings.
 -- Assumes nothing.
-use Prim.Native.Nat.{ℕ, suc, ◌≤◌}
+use Prim.Native.Nat.{ℕ, suc, ◌≤◌, ◌<◌}
 use mathlib.Core.Path.{◌≡◌, refl, sym, ap, ◌∙◌}
 use mathlib.Core.List.{List, [], ◌∷◌}
 use mathlib.Core.Bool.{false}
 use native.Mathlib.Omega.{arith}
 use lib.Dec.{eqb}
 use lib.ListN.{length}
-use borrow.Author.Tests.{le-ltb, ne_eqb}
+use borrow.Author.Tests.{lt-ltb, le-ltb, ne_eqb}
 use Rattle.std.specs.declared.result.Result.TheVariants.{Ok}
 use Rattle.bincode.specs.Answer.{answer}
 use Rattle.bincode.specs.Read.{value, refuse, whole}
@@ -28,6 +28,11 @@ use Rattle.joining.specs.Starting.{is_empty, join_checked, start_map, start_chec
 pub empty_length : (ns : List Node) → eqb (length ns) 0 ≡ is_empty ns
 empty_length [] = refl
 empty_length (n ∷ ns) = ne_eqb (suc (length ns)) 0 (λ e. let z : ⊥ = omega arith in z)
+
+-- joining, row 1: too few places
+pub join_places : (z : Sizes) (places id key : ℕ) (s : List ℕ) → places < z.due → join_checked z places id key s ≡ refused 1
+unfolding join_checked
+join_places z places id key s h = rw (lt-ltb places z.due h)
 
 -- joining: the plan's refusal is the call's
 pub join_refused : (z : Sizes) (places id key : ℕ) (s : List ℕ) → z.due ≤ places

@@ -1,12 +1,20 @@
 -- Laws of what is handed out by place.
 -- Assumes nothing.
-use Prim.Native.Nat.{ℕ, zero, suc}
+use Prim.Native.Nat.{ℕ, zero, suc, ◌≤◌}
 use mathlib.Core.Path.{◌≡◌, refl}
 use mathlib.Core.List.{List, [], ◌∷◌, ◌++◌, map}
+use native.Mathlib.Omega.{arith}
 use lib.ListN.{length}
-use Rattle.lists.specs.Lists.{found, map_found, at_place}
+use Rattle.lists.specs.Lists.{found, nothing, map_found, at_place}
 
 module _ {A : Type 0} where
+  -- past the last nothing stands
+  pub at_past : (xs : List A) (i : ℕ) → length xs ≤ i → at_place i xs ≡ nothing
+  unfolding at_place
+  at_past [] i h = refl
+  at_past (x ∷ xs) zero h = absurd (let y : ⊥ = omega arith in y)
+  at_past (x ∷ xs) (suc i) h = at_past xs i (omega arith)
+
   -- an element with as many before it as its place says
   pub at_between : (before behind : List A) (x : A) → at_place (length before) (before ++ (x ∷ behind)) ≡ found x
   unfolding at_place

@@ -56,6 +56,16 @@ module _ (faults dues : ℕ) where
   unfolding batch_row1
   no_short enough room = λ j. le-ltb faults base.faults enough j || le-ltb dues base.due room j
 
+-- so such a call is refused by 1, whatever the sizes are
+module _ (z : Sizes) (era : ℕ) (b : BatchCall) where
+  pub open_faults : b.fault_places < z.faults → opened z era b ≡ refused 1
+  unfolding opened batch_row1
+  open_faults h = cond_yes _ _ (ap (λ (x : Bool). x || ltb b.due_places z.due) (lt-ltb _ _ h))
+
+  pub open_due : z.faults ≤ b.fault_places → b.due_places < z.due → opened z era b ≡ refused 1
+  unfolding opened batch_row1
+  open_due enough h = cond_yes _ _ (λ j. le-ltb b.fault_places z.faults enough j || lt-ltb b.due_places z.due h j)
+
 pub read_short : (r : Result (BatchIndex × ℕ) Refusal) (short : Bool) (x : Read (List ContribOf)) → short ≡ true → r ≡ Err ShortBuffer → ReadAs r short x
 read_short r short x e q = (λ y. q, λ n. absurd (false_true (sym n ∙ e)))
 

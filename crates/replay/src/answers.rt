@@ -1,5 +1,5 @@
 // The values of answers as text: faults, due items, recipe, votes, rows of the board, parts, and encoded values as bytes.
-use crate::text::{hex_with, put_list};
+use crate::text::{put_list, put_value};
 use board::Board;
 use key_gen::KeyGen;
 use pub_key_map::PubKeyMap;
@@ -112,8 +112,8 @@ pub(crate) fn put_ids(out: &mut String, ids: &[u32]) -> Result<(), AllocError> {
 // Committed votes by ascending voter, each as `VOTER:NUMBER:CHANGE`; `-` for none.
 pub(crate) fn put_votes(out: &mut String, votes: &[SignedVote]) -> Result<(), AllocError> {
     put_list(out, ",", votes.iter(), |out, x| {
-        let change = hex_with(*out.allocator(), x.vote.change)?;
-        write!(out, "{}:{}:{change}", x.voter, x.vote.num)
+        write!(out, "{}:{}:", x.voter, x.vote.num)?;
+        put_value(out, x.vote.change)
     })
 }
 
@@ -121,8 +121,8 @@ pub(crate) fn put_votes(out: &mut String, votes: &[SignedVote]) -> Result<(), Al
 pub(crate) fn put_board(out: &mut String, counter: &VoteCounter) -> Result<(), AllocError> {
     let rows = (0..Board::LIMIT).map_while(|i| counter.board_row(i));
     put_list(out, ",", rows, |out, row| {
-        let change = hex_with(*out.allocator(), row.change)?;
-        write!(out, "{}:{change}", row.count)
+        write!(out, "{}:", row.count)?;
+        put_value(out, row.change)
     })
 }
 

@@ -2,7 +2,7 @@
 use crate::answers::{put_due, put_faults, put_ids, put_recipe};
 use crate::lent::{Lists, end_line};
 use crate::parse::{BatchCall, Join};
-use crate::text::hex_with;
+use crate::text::put_value;
 use batch::Batch;
 use bincode::Refusal;
 use dynamic_honey_badger::{DynamicHoneyBadger, JoinStarted};
@@ -12,11 +12,12 @@ use std::alloc::AllocError;
 
 // A report: its epoch, era, change, map and params; its voters stand at the end of the answer.
 fn put_batch(out: &mut String, b: Batch) -> Result<(), AllocError> {
-    let alloc = *out.allocator();
-    let change = hex_with(alloc, b.change)?;
-    let map = hex_with(alloc, b.pub_keys)?;
-    let params = hex_with(alloc, b.params)?;
-    write!(out, "batch {} {} {change} {map} {params}", b.epoch, b.era)
+    write!(out, "batch {} {} ", b.epoch, b.era)?;
+    put_value(out, b.change)?;
+    out.push_str(" ")?;
+    put_value(out, b.pub_keys)?;
+    out.push_str(" ")?;
+    put_value(out, b.params)
 }
 
 // The first n due items of the lists.

@@ -5,7 +5,7 @@ use crate::batches::{join, say_batch, say_join};
 use crate::lent::Lists;
 use crate::parse::{BatchCall, Call, Join, New, Order};
 use crate::queries::{ask, plan_new, plan_old, schedule, user};
-use crate::text::{Failure, hex_with};
+use crate::text::{Failure, put_value};
 use batch::Batch;
 use bincode::Refusal;
 use dynamic_honey_badger::DynamicHoneyBadger;
@@ -24,8 +24,9 @@ pub struct Host {
 
 // The bytes of the message that broadcasts an own vote.
 fn say_cast(out: &mut String, vote: SignedVote) -> Result<(), AllocError> {
-    let bytes = hex_with(*out.allocator(), Message::SignedVote(vote))?;
-    writeln!(out, "vote {bytes}")
+    out.push_str("vote ")?;
+    put_value(out, Message::SignedVote(vote))?;
+    out.push_str("\n")
 }
 
 // What an own vote answers.

@@ -1,4 +1,7 @@
 // Cuts standard input into lines and hands each to the replica's host.
+ghost use Rattle.std.specs.Prelude.{◌≤◌};
+ghost use Rattle.std.specs.Vec.{vec_len};
+
 use crate::host::{Host, answer};
 use crate::lent::Lists;
 use crate::parse::parse;
@@ -16,7 +19,10 @@ pub const MOST_LINE: usize = 140000;
 pub const INPUT: usize = 65536;
 
 // Takes what was read of a line, and answers whether it ends there; none at the end of the input. Of a line that is too long, just enough is kept to tell.
-fn take_some(input: &mut impl BufRead, line: &mut Vec<u8>) -> io::Result<Option<bool>> {
+fn take_some(input: &mut impl BufRead, line: &mut Vec<u8>) -> io::Result<Option<bool>>
+    requires { vec_len line.old ≤ 140001 }
+    ensures { vec_len line.new ≤ 140001 }
+{
     let held = input.fill_buf()?;
     if held.is_empty() {
         return Ok(None);
@@ -29,15 +35,17 @@ fn take_some(input: &mut impl BufRead, line: &mut Vec<u8>) -> io::Result<Option<
     Ok(Some(end.is_some()))
 }
 
-// Reads the next line, without its line feed, and answers whether there was one. A last line without a line feed is a line. A proved loop has to end, so its turns are counted,
-// to a number that no run uses up.
-fn next_line(input: &mut impl BufRead, line: &mut Vec<u8>) -> io::Result<bool> {
+// Reads the next line, without its line feed, and answers whether the input goes on behind it. A last line without a line feed is a line; where nothing was left, the line is empty and
+// answers nothing. A proved loop has to end, so its turns are counted, to a number that no run uses up.
+fn next_line(input: &mut impl BufRead, line: &mut Vec<u8>) -> io::Result<bool>
+    ensures { vec_len line.new ≤ 140001 }
+{
     line.clear();
     for _ in 0..u64::MAX {
         match take_some(input, line)? {
             Some(true) => return Ok(true),
             Some(false) => {}
-            None => return Ok(!line.is_empty()),
+            None => return Ok(false),
         }
     }
     Ok(false)
@@ -74,7 +82,7 @@ fn tell(
     }
 }
 
-// Reads to the end of the input, with turns counted as above. An answer is written in one piece before the next line is read; where reading or writing fails, that is the program's
+// Reads to the end of the input, and no more once it has ended, with turns counted as above. An answer is written in one piece before the next line is read; where reading or writing fails, that is the program's
 // error, and a line that was cut off there is not answered.
 fn read_all(
     alloc: Global,
@@ -87,14 +95,15 @@ fn read_all(
     let mut out = String::new(alloc);
     let mut host = None;
     for _ in 0..u64::MAX {
-        if !next_line(&mut input, &mut line).context("replay: standard input")? {
-            return Ok(());
-        }
+        let more = next_line(&mut input, &mut line).context("replay: standard input")?;
         out.clear();
         tell(&line, &mut host, lists, &mut out)?;
         output
             .write_all(out.as_bytes())
             .context("replay: standard output")?;
+        if !more {
+            return Ok(());
+        }
     }
     Ok(())
 }

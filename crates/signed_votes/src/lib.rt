@@ -36,8 +36,8 @@ impl SignedVotes {
 
     // The number of a voter's vote, if it has one.
     #[tactic(auto, using(crate::proofs::VotesLaws::held_num))]
-    pub fn num_of(self, voter: u32) -> Option<u64>
-        ensures { option_as_found (λ (x : ℕ). x) result ≡ map_found num_of (lookup voter_of (votes_of self) voter) }
+    pub fn num_of(&self, voter: u32) -> Option<u64>
+        ensures { option_as_found (λ (x : ℕ). x) result ≡ map_found num_of (lookup voter_of (votes_of self.now) voter) }
     {
         let x = self.votes.get(voter)?;
         Some(x.vote.num)

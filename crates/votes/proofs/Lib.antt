@@ -1,3 +1,4 @@
 pub mod VoteLaws
 pub mod VoteCodes
 pub mod VoteCauses
+pub mod HeadLaws
