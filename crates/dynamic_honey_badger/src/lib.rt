@@ -428,7 +428,7 @@ impl DynamicHoneyBadger {
     {
         let counter = self.vote_counter;
         let our_id = counter.our_id;
-        let committed = counter.committed.num_of(our_id);
+        let committed = counter.committed.find_num(our_id);
         let mut pending = counter.pending.votes.as_slice().iter();
         pending.any(|x| x.voter == our_id && committed.is_none_or(|num| num < x.vote.num))
     }

@@ -35,8 +35,15 @@ impl SignedVotes {
     }
 
     // The number of a voter's vote, if it has one.
+    pub fn num_of(self, voter: u32) -> Option<u64>
+        ensures { option_as_found (λ (x : ℕ). x) result ≡ map_found num_of (lookup voter_of (votes_of self) voter) }
+    {
+        self.find_num(voter)
+    }
+
+    // The same of votes that are lent, so that none is copied.
     #[tactic(auto, using(crate::proofs::VotesLaws::held_num))]
-    pub fn num_of(&self, voter: u32) -> Option<u64>
+    pub fn find_num(&self, voter: u32) -> Option<u64>
         ensures { option_as_found (λ (x : ℕ). x) result ≡ map_found num_of (lookup voter_of (votes_of self.now) voter) }
     {
         let x = self.votes.get(voter)?;
@@ -56,5 +63,29 @@ impl SignedVotes {
     {
         self.votes.insert(x);
         self
+    }
+}
+
+#[cfg(test)]
+mod tests {
+    use super::*;
+
+    fn signed(voter: u32, num: u64) -> SignedVote {
+        let mut x = SignedVote::empty();
+        x.voter = voter;
+        x.vote.num = num;
+        x
+    }
+
+    // Of lists of no vote and of two, each voter's own number, by value and lent; the list is still there afterwards.
+    #[test]
+    fn numbers_by_voter(rt: HostRuntime) {
+        let none = SignedVotes::empty();
+        let two = none.put(signed(7, 9)).put(signed(3, u64::MAX));
+        for (voter, num) in [(0, None), (3, Some(u64::MAX)), (5, None), (7, Some(9))] {
+            assert_eq!(rt; none.num_of(voter), None, "no vote, {voter}");
+            assert_eq!(rt; SignedVotes::num_of(two, voter), num, "by value, {voter}");
+            assert_eq!(rt; two.find_num(voter), num, "lent, {voter}");
+        }
     }
 }

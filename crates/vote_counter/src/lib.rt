@@ -78,7 +78,7 @@ fn is_obsolete(votes: SignedVotes, x: SignedVote) -> bool
     ensures { result ≡ obsolete (votes_of votes) (signed_of x) }
 {
     let num = x.vote.num;
-    votes.num_of(x.voter).is_some_and(|old| num <= old)
+    votes.find_num(x.voter).is_some_and(|old| num <= old)
 }
 
 // Whether a signature is under the id's key of a map.
@@ -226,7 +226,7 @@ impl VoteCounter {
         ensures { (signed_answer result ≡ sign_vote_for base (counter_of self) (change_of change)) × SignRefusedKeeps result self }
     {
         let pending = self.pending;
-        let Some(num) = pending.num_of(self.our_id) else {
+        let Some(num) = pending.find_num(self.our_id) else {
             return self.sign_with(change, 0);
         };
         if num == u64::MAX {

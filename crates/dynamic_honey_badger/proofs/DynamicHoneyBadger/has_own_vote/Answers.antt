@@ -11,6 +11,6 @@ pub returns : goal.returns
 unfolding pending_votes
 returns c =
     let x = c.args.self.vote_counter in
-    let o = c.num_of-committed.result in
+    let o = c.find_num-committed.result in
     any_from_yields_List (own_waits x.our_id o) _ _ _ c.any.ensures.ran (YieldsList-from_slice (held x.pending) cc) (λ v b q h. search (rules, tests))
-    ∙ own_among x.our_id (counter_of x) o c.num_of-committed.ensures (held x.pending)
+    ∙ own_among x.our_id (counter_of x) o c.find_num-committed.ensures (held x.pending)
